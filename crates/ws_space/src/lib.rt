@@ -1,0 +1,8 @@
+//! Arrays in array element order, and the state of a program.
+#![tactic(auto)]
+
+mod shape;
+mod state;
+
+pub use shape::{Dim, Shape, Subs, Triplet};
+pub use state::{ArrayValue, Ended, State, ValueList, Var, VarList, VarState};
