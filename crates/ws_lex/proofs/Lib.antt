@@ -1,0 +1,8 @@
+mod Rows
+pub mod Runs
+pub mod Ends
+pub mod Pieces
+pub mod Least
+pub mod Sources
+pub mod Longest
+pub mod Ascii
