@@ -6,3 +6,5 @@ pub mod Least
 pub mod Sources
 pub mod Longest
 pub mod Ascii
+pub mod Order
+pub mod Kept

@@ -5,12 +5,14 @@ use Rattle.ws_lex.specs.declared.token.Token.{Token}
 use Rattle.ws_lex.specs.Text.{text}
 use Rattle.ws_lex.specs.Tokens.{IsTokens, IsBroken, lines_of, pieces, breaks, statements, tokens_before, end_token}
 use Rattle.ws_lex.specs.Steps.{least_from}
+use Rattle.ws_lex.proofs.Kept.{kept-whole}
 use Rattle.ws_lex.proofs.Least.{least-is, least-none}
 
 pub broken : (source : List ℕ) (cells : List Cell) (line : ℕ) (before : List Token) → cells ≡ text (lines_of source) →
     Some line ≡ least_from None (breaks (pieces cells)) → before ≡ tokens_before (Some line) (statements (pieces cells)) → IsBroken source line before
 broken source cells line before e h b = record {
   first = least-is _ line (sym (h ∙ ap (λ cs. least_from None (breaks (pieces cs))) e));
+  whole = kept-whole source line (least-is _ line (sym (h ∙ ap (λ cs. least_from None (breaks (pieces cs))) e)));
   value = b ∙ ap (λ cs. tokens_before (Some line) (statements (pieces cs))) e;
 }
 

@@ -1,5 +1,5 @@
 -- The tokens of a text.
-use Rattle.std.specs.Prelude.{ℕ, zero, suc, Bool, true, false, ◌-◌, ◌≡◌, ◌≤◌, List, [], ◌∷◌, ◌++◌, map, take, length, nat_lt, Option, Some, None, ⊤, if◌then◌else◌, All, Contains}
+use Rattle.std.specs.Prelude.{ℕ, zero, suc, Bool, true, false, ◌-◌, ◌≡◌, ◌≢◌, ◌≤◌, ◌<◌, List, [], ◌∷◌, ◌++◌, map, take, length, nat_lt, Option, Some, None, ⊤, if◌then◌else◌, All, Contains}
 use Rattle.ws_lex.specs.declared.piece.Shape.{Shape}
 use Rattle.ws_lex.specs.declared.piece.Shape.TheVariants as shape
 use Rattle.ws_lex.specs.declared.piece.Spelled.{Spelled}
@@ -123,9 +123,14 @@ pub record IsTokens (source : List ℕ) (tokens : List Token) : Type 0 where
   pub unbroken : breaks (pieces_of source) ≡ []
   pub value : tokens ≡ tokens_of source
 
--- the first line that breaks the form, and the statements that end on a line before it
+-- no piece breaks the form
+abbrev pub IsWhole : Statement → Type 0
+IsWhole s = All (λ p. p.shape ≢ shape.Broken) s.pieces
+
+-- the first line that breaks the form, and the statements that end on a line before it, each of them whole
 pub record IsBroken (source : List ℕ) (line : ℕ) (before : List Token) : Type 0 where
   pub first : IsLeast line (breaks (pieces_of source))
+  pub whole : All (λ s. s.last < line → IsWhole s) (statements (pieces_of source))
   pub value : before ≡ tokens_before (Some line) (statements (pieces_of source))
 
 abbrev pub IsLexEnd : List ℕ → LexEnd → Type 0
