@@ -1,0 +1,6 @@
+use Rattle.std.proofs.Common.{◌≡◌, ◌+◌, drop}
+use Rattle.ws_lex.specs.Spelling as words
+use Rattle.ws_lex.proofs.spell.digit_run.Given as goal
+
+abbrev pub invariant-loop-i : goal.invariant-loop-i
+invariant-loop-i l = l.i + words.digit_run (drop l.i l.bytes) ≡ words.digit_run l.bytes
