@@ -4,5 +4,5 @@
 mod shape;
 mod state;
 
-pub use shape::{Dim, Shape, Subs, Triplet};
+pub use shape::{Dim, ELEMENT_LIMIT, Shape, Subs, Triplet};
 pub use state::{ArrayValue, Ended, State, ValueList, Var, VarList, VarState};
