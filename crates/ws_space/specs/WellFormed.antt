@@ -1,5 +1,5 @@
 -- Shapes within the limits, and the states that a checked program can reach.
-use Rattle.std.specs.Prelude.{ℕ, ◌<◌, ◌≤◌, ◌≡◌, Bool, true, false, ◌||◌, List, length, ℤ, pos, ◌≤ℤ◌}
+use Rattle.std.specs.Prelude.{ℕ, ◌<◌, ◌≤◌, ◌≡◌, Bool, true, false, ◌||◌, length, ℤ, pos, ◌≤ℤ◌}
 use Rattle.std.specs.List.{All, AllPass}
 use Rattle.ws_base.specs.Numbers.{int_eq, in_range, default_half}
 use Rattle.ws_space.specs.declared.shape.Dim.{Dim}
@@ -19,6 +19,11 @@ elements s = size (extents_of (dims s))
 -- the last subscript is a default integer
 abbrev pub HasLast : Dim → Type 0
 HasLast d = upper d ≤ℤ pos 2147483647
+
+-- the dimension has an element, and each of its subscripts is a default integer
+pub record IsFilled (d : Dim) : Type 0 where
+  pub some : 0 < d.extent
+  pub last : HasLast d
 
 -- A shape of at most 65536 elements. An empty one may have a last subscript that is no default integer.
 pub record IsShape (s : Shape) : Type 0 where
