@@ -1,14 +1,18 @@
--- The report of a state.
-use Rattle.std.specs.Prelude.{ℕ, Bool, true, false, List, [], ◌∷◌, ◌++◌, ℤ, if◌then◌else◌, codes}
+-- The report of a run: a line for each variable, or the line of the fault that ended it.
+use Rattle.std.specs.Prelude.{ℕ, Bool, true, false, List, [], ◌∷◌, ◌++◌, ℤ, if◌then◌else◌, codes, decimal}
 use Rattle.std.specs.List.{flat_map}
 use Rattle.std.specs.Fmt.{signed_decimal}
+use Rattle.ws_base.specs.declared.fault.Fault.{Fault}
 use Rattle.ws_base.specs.Numbers.{is_true}
+use Rattle.ws_base.specs.Words.{fault_name}
 use Rattle.ws_space.specs.Shapes.{dims, upper}
 use Rattle.ws_space.specs.declared.shape.Dim.{Dim}
 use Rattle.ws_space.specs.declared.state.VarState.{VarState}
 use Rattle.ws_space.specs.declared.state.VarState.TheVariants as state
 use Rattle.ws_space.specs.declared.state.Var.{Var}
 use Rattle.ws_space.specs.declared.state.State.{State}
+use Rattle.ws_space.specs.declared.state.Ended.{Ended}
+use Rattle.ws_space.specs.declared.state.Ended.TheVariants.{Done, Faulted}
 
 -- a LOGICAL value, or an INTEGER one
 abbrev pub value_text : Bool → ℤ → List ℕ
@@ -41,3 +45,11 @@ var_line var = var.name ++ state_text var.truth var.state ++ codes "\n"
 -- one line for each variable, in order of declaration
 abbrev pub variables_text : State → List ℕ
 variables_text s = flat_map var_line s.vars
+
+-- the line of a fault
+abbrev pub fault_text : Fault → List ℕ
+fault_text f = codes "fault " ++ fault_name f.name ++ codes " line " ++ decimal f.line ++ codes " element " ++ decimal f.element ++ codes "\n"
+
+abbrev pub report_text : Ended → List ℕ
+report_text (Done s) = variables_text s
+report_text (Faulted f) = fault_text f

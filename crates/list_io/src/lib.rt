@@ -1,6 +1,6 @@
-//! The text of a state: one line for each variable.
+//! The text of a run's end.
 #![tactic(auto)]
 
 mod printing;
 
-pub use printing::variables_report;
+pub use printing::report;

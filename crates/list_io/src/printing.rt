@@ -1,13 +1,14 @@
-//! The lines of variables.
+//! The lines of a report.
 
 ghost use Rattle.std.specs.Prelude.{◌≡◌, ◌++◌, true, codes, OnOk, IfOk};
 ghost use Rattle.std.specs.List.{flat_map};
 ghost use Rattle.ws_space.specs.Shapes.{dims, upper};
-ghost use Rattle.list_io.specs.ReportText.{value_text, item_text, dim_text, dims_text, state_text, var_line, variables_text};
+ghost use Rattle.list_io.specs.ReportText.{value_text, item_text, dim_text, dims_text, state_text, var_line, variables_text, fault_text, report_text};
 
 use itoa::{Buffer, Integer};
 use std::alloc::{AllocError, Global};
-use ws_space::{Dim, Shape, State, Var, VarState};
+use ws_base::Fault;
+use ws_space::{Dim, Ended, Shape, State, Var, VarState};
 
 fn put_integer<I: Integer>(text: &mut Vec<u8>, value: I) -> Result<(), AllocError>
     ensures { OnOk result (text.new.items ≡ text.old.items ++ I.text value) }
@@ -104,15 +105,38 @@ fn put_var(text: &mut Vec<u8>, var: &Var) -> Result<(), AllocError>
     text.extend_from_slice(b"\n")
 }
 
-/// One line for each variable, in order of declaration, each ended by LF: `n = 5`, `t(1:2) = T F`,
-/// `u(1:2,0:1) = 1 2 3 4` in array element order, `p unallocated`. The bounds are the lower bound and
-/// lower bound + extent - 1; with no elements the line ends at `=`.
-pub fn variables_report(alloc: Global, state: &State) -> Result<Vec<u8>, AllocError>
-    ensures { IfOk result (λ text. text.items ≡ variables_text state.now) }
+fn put_variables(text: &mut Vec<u8>, state: &State) -> Result<(), AllocError>
+    ensures { OnOk result (text.new.items ≡ text.old.items ++ variables_text state.now) }
+{
+    for var in state.vars.as_slice() {
+        put_var(text, var)?;
+    }
+    Ok(())
+}
+
+fn put_fault(text: &mut Vec<u8>, fault: Fault) -> Result<(), AllocError>
+    ensures { OnOk result (text.new.items ≡ text.old.items ++ fault_text fault) }
+{
+    text.extend_from_slice(b"fault ")?;
+    text.extend_from_slice(fault.name.word().as_bytes())?;
+    text.extend_from_slice(b" line ")?;
+    put_integer(text, fault.line)?;
+    text.extend_from_slice(b" element ")?;
+    put_integer(text, fault.element)?;
+    text.extend_from_slice(b"\n")
+}
+
+/// The report of a run. One that is done has a line for each variable, in order of declaration: `n = 5`,
+/// `t(1:2) = T F`, `u(1:2,0:1) = 1 2 3 4` in array element order, `p unallocated`. The bounds are the lower bound
+/// and lower bound + extent - 1; with no elements the line ends at `=`. A fault has the one line
+/// `fault NAME line L element K`. Each line ends with LF.
+pub fn report(alloc: Global, ended: &Ended) -> Result<Vec<u8>, AllocError>
+    ensures { IfOk result (λ text. text.items ≡ report_text ended.now) }
 {
     let mut text = Vec::new(alloc);
-    for var in state.vars.as_slice() {
-        put_var(&mut text, var)?;
+    match ended {
+        Ended::Done(state) => put_variables(&mut text, state)?,
+        Ended::Faulted(fault) => put_fault(&mut text, *fault)?,
     }
     Ok(text)
 }
