@@ -2,6 +2,7 @@
 //! Read `specs/Lines.antt`, `Text.antt`, `Spelling.antt` and `Tokens.antt`, in this order.
 #![tactic(auto)]
 
+mod laws;
 mod lex;
 mod line;
 mod piece;
@@ -9,6 +10,7 @@ mod spell;
 mod text;
 mod token;
 
+pub use laws::the_longest_token_is_taken;
 pub use lex::tokens;
 pub use piece::{Cell, Front, LineKind, Shape, Spelled, Text};
 pub use token::{LexEnd, Sign, Token, TokenKind, TokenList};
