@@ -1,4 +1,4 @@
-mod Rows
+pub mod Rows
 pub mod Runs
 pub mod Ends
 pub mod Pieces

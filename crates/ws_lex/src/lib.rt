@@ -10,7 +10,7 @@ mod spell;
 mod text;
 mod token;
 
-pub use laws::the_longest_token_is_taken;
+pub use laws::{the_longest_token_is_taken, worked_rows_hold};
 pub use lex::tokens;
 pub use piece::{Cell, Front, LineKind, Shape, Spelled, Text};
 pub use token::{LexEnd, Sign, Token, TokenKind, TokenList};
