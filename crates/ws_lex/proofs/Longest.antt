@@ -1,5 +1,5 @@
 -- The token taken at the front of a text is the longest that is spelled there.
-use Rattle.std.proofs.Common.{◌≡◌, ◌≤◌, ◌<◌, ◌+◌, ◌-◌, ◌⊎◌, ℕ, zero, suc, Bool, true, false, ◌&&◌, List, [], ◌∷◌, ◌++◌, length, drop, refl, sym, ap, ◌∙◌, arith, append_assoc, subst, inl, inr, ⊎_elim, true≢false}
+use Rattle.std.proofs.Common.{◌≡◌, ◌≤◌, ◌<◌, ◌+◌, ◌⊎◌, ℕ, suc, Bool, true, false, ◌&&◌, List, [], ◌∷◌, ◌++◌, length, drop, refl, sym, ap, ◌∙◌, arith, subst, inl, inr, true≢false}
 use Rattle.std.specs.Prelude.{nat_eq, nat_le, nat_lt, not, ◌||◌, if◌then◌else◌}
 use Rattle.std.specs.List.{list_all}
 use Rattle.std.proofs.Math.Seq.{drop-append_seam}
@@ -255,7 +255,7 @@ spell-number : (bs : List ℕ) → is_letter (first bs) ≡ false → begins_num
 spell-number bs plain h =
     let number = spelled (number_length bs) (shape_of_number (digit_run bs) (number_length bs)) in
     let other = if is_quote (first bs) then quoted (first bs) (drop 1 bs) else
-        (if nat_eq (first bs) 46 then fixed (dot_operators ++ truth_values) bs else fixed (pairs ++ singles) bs) in
+    (if nat_eq (first bs) 46 then fixed (dot_operators ++ truth_values) bs else fixed (pairs ++ singles) bs) in
     unless (is_letter (first bs)) (word_of (word_run bs)) (if begins_number bs then number else other) plain ∙
     when (begins_number bs) number other h
 
@@ -377,48 +377,127 @@ abbrev TakesWhole : List ℕ → Type 0
 TakesWhole bytes = (rest : List ℕ) → length bytes ≤ (spell (bytes ++ rest)).size
 
 each-whole : Each TakesWhole all_fixed
-each-whole =
-    ((λ rest. omega arith),
-    ((λ rest. omega arith),
-    ((λ rest. omega arith),
-    ((λ rest. omega arith),
-    ((λ rest. omega arith),
-    ((λ rest. omega arith),
-    ((λ rest. omega arith),
-    ((λ rest. omega arith),
-    ((λ rest. omega arith),
-    ((λ rest. omega arith),
-    ((λ rest. omega arith),
-    ((λ rest. omega arith),
-    ((λ rest. omega arith),
-    ((λ rest. omega arith),
-    ((λ rest. omega arith),
-    ((λ rest. omega arith),
-    ((λ rest. omega arith),
-    ((λ rest. omega arith),
-    ((λ rest. omega arith),
-    ((λ rest. omega arith),
-    ((λ rest. omega arith),
-    ((λ rest. omega arith),
-    ((λ rest. omega arith),
-    ((λ rest. fixed-some (pairs ++ singles) (32 ∷ rest) refl),
-    ((λ rest. fixed-some (pairs ++ singles) (59 ∷ rest) refl),
-    ((λ rest. fixed-some (pairs ++ singles) (33 ∷ rest) refl),
-    ((λ rest. fixed-some (pairs ++ singles) (37 ∷ rest) refl),
-    ((λ rest. fixed-some (pairs ++ singles) (43 ∷ rest) refl),
-    ((λ rest. fixed-some (pairs ++ singles) (45 ∷ rest) refl),
-    ((λ rest. fixed-some (pairs ++ singles) (42 ∷ rest) refl),
-    ((λ rest. fixed-some (pairs ++ singles) (47 ∷ rest) refl),
-    ((λ rest. fixed-some (pairs ++ singles) (60 ∷ rest) refl),
-    ((λ rest. fixed-some (pairs ++ singles) (62 ∷ rest) refl),
-    ((λ rest. fixed-some (pairs ++ singles) (40 ∷ rest) refl),
-    ((λ rest. fixed-some (pairs ++ singles) (41 ∷ rest) refl),
-    ((λ rest. fixed-some (pairs ++ singles) (91 ∷ rest) refl),
-    ((λ rest. fixed-some (pairs ++ singles) (93 ∷ rest) refl),
-    ((λ rest. fixed-some (pairs ++ singles) (44 ∷ rest) refl),
-    ((λ rest. fixed-some (pairs ++ singles) (58 ∷ rest) refl),
-    ((λ rest. fixed-some (pairs ++ singles) (61 ∷ rest) refl),
-    tt))))))))))))))))))))))))))))))))))))))))
+each-whole = (
+  (λ rest. omega arith),
+  (
+    (λ rest. omega arith),
+    (
+      (λ rest. omega arith),
+      (
+        (λ rest. omega arith),
+        (
+          (λ rest. omega arith),
+          (
+            (λ rest. omega arith),
+            (
+              (λ rest. omega arith),
+              (
+                (λ rest. omega arith),
+                (
+                  (λ rest. omega arith),
+                  (
+                    (λ rest. omega arith),
+                    (
+                      (λ rest. omega arith),
+                      (
+                        (λ rest. omega arith),
+                        (
+                          (λ rest. omega arith),
+                          (
+                            (λ rest. omega arith),
+                            (
+                              (λ rest. omega arith),
+                              (
+                                (λ rest. omega arith),
+                                (
+                                  (λ rest. omega arith),
+                                  (
+                                    (λ rest. omega arith),
+                                    (
+                                      (λ rest. omega arith),
+                                      (
+                                        (λ rest. omega arith),
+                                        (
+                                          (λ rest. omega arith),
+                                          (
+                                            (λ rest. omega arith),
+                                            (
+                                              (λ rest. omega arith),
+                                              (
+                                                (λ rest. fixed-some (pairs ++ singles) (32 ∷ rest) refl),
+                                                (
+                                                  (λ rest. fixed-some (pairs ++ singles) (59 ∷ rest) refl),
+                                                  (
+                                                    (λ rest. fixed-some (pairs ++ singles) (33 ∷ rest) refl),
+                                                    (
+                                                      (λ rest. fixed-some (pairs ++ singles) (37 ∷ rest) refl),
+                                                      (
+                                                        (λ rest. fixed-some (pairs ++ singles) (43 ∷ rest) refl),
+                                                        (
+                                                          (λ rest. fixed-some (pairs ++ singles) (45 ∷ rest) refl),
+                                                          (
+                                                            (λ rest. fixed-some (pairs ++ singles) (42 ∷ rest) refl),
+                                                            (
+                                                              (λ rest. fixed-some (pairs ++ singles) (47 ∷ rest) refl),
+                                                              (
+                                                                (λ rest. fixed-some (pairs ++ singles) (60 ∷ rest) refl),
+                                                                (
+                                                                  (λ rest. fixed-some (pairs ++ singles) (62 ∷ rest) refl),
+                                                                  (
+                                                                    (λ rest. fixed-some (pairs ++ singles) (40 ∷ rest) refl),
+                                                                    (
+                                                                      (λ rest. fixed-some (pairs ++ singles) (41 ∷ rest) refl),
+                                                                      (
+                                                                        (λ rest. fixed-some (pairs ++ singles) (91 ∷ rest) refl),
+                                                                        (
+                                                                          (λ rest. fixed-some (pairs ++ singles) (93 ∷ rest) refl),
+                                                                          (
+                                                                            (λ rest. fixed-some (pairs ++ singles) (44 ∷ rest) refl),
+                                                                            (
+                                                                              (λ rest. fixed-some (pairs ++ singles) (58 ∷ rest) refl),
+                                                                              (
+                                                                                (λ rest. fixed-some (pairs ++ singles) (61 ∷ rest) refl),
+                                                                                tt,
+                                                                              ),
+                                                                            ),
+                                                                          ),
+                                                                        ),
+                                                                      ),
+                                                                    ),
+                                                                  ),
+                                                                ),
+                                                              ),
+                                                            ),
+                                                          ),
+                                                        ),
+                                                      ),
+                                                    ),
+                                                  ),
+                                                ),
+                                              ),
+                                            ),
+                                          ),
+                                        ),
+                                      ),
+                                    ),
+                                  ),
+                                ),
+                              ),
+                            ),
+                          ),
+                        ),
+                      ),
+                    ),
+                  ),
+                ),
+              ),
+            ),
+          ),
+        ),
+      ),
+    ),
+  ),
+)
 
 fixed-longest : (s : Shape) (bytes rest : List ℕ) → IsOneOf all_fixed s bytes → length bytes ≤ (spell (bytes ++ rest)).size
 fixed-longest s bytes rest h = one-of TakesWhole all_fixed s bytes each-whole h rest

@@ -16,4 +16,3 @@ token_rows-hold = (refl, (refl, (refl, (refl, (refl, (refl, (refl, (refl, tt))))
 
 pub before_rows-hold : Hold before_rows
 before_rows-hold = (refl, (refl, (refl, (refl, (refl, tt)))))
-

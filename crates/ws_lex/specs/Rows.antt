@@ -136,4 +136,3 @@ before_rows =
     (codes "a = 1 &\n; b = 2\nc = ?\n", codes "refused 3: 1:a 1:= 1:1; 2:b 2:= 2:2; ") ∷
     (codes "a = 1 &\n& ;\n?\n", codes "refused 3: 1:a 1:= 1:1; ") ∷
     []
-

@@ -7,8 +7,7 @@ ghost use Rattle.ws_lex.specs.Spells.{IsLongest};
 /// The token taken at the front of a text is the longest: no longer front spells one.
 pub fn the_longest_token_is_taken()
     ensures { (text : List ℕ) → IsLongest text }
-{
-}
+{}
 
 /// The definitions give small sources the answers that were worked by hand from the source form.
 pub fn worked_rows_hold()
@@ -17,5 +16,4 @@ pub fn worked_rows_hold()
     ensures directives { Hold directive_rows }
     ensures tokens { Hold token_rows }
     ensures before { Hold before_rows }
-{
-}
+{}

@@ -7,6 +7,8 @@ mod lex;
 mod line;
 mod piece;
 mod spell;
+#[cfg(test)]
+mod tests;
 mod text;
 mod token;
 
