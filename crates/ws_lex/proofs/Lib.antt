@@ -8,3 +8,4 @@ pub mod Longest
 pub mod Ascii
 pub mod Order
 pub mod Kept
+pub mod Taken

@@ -11,7 +11,7 @@ use Rattle.ws_lex.specs.Lines.{starts, is_quote}
 use Rattle.ws_lex.specs.Spelling.{is_letter, is_digit, is_word_byte, is_sign, is_exponent_letter, begins_dot_operator, begins_number, digit_run, word_run, first, fraction, exponent_of, exponent, kind_suffix, real_size, number_size, number_length, shape_of_number, before_quote, quoted, word_of, spelled, fixed, dot_operators, truth_values, pairs, singles, spell}
 use Rattle.ws_lex.specs.Spells.{is_name, is_digits, is_fraction, is_signed, is_exponent, is_kind, is_begun, IsNumber, IsQuoted, IsOneOf, Spells, IsLongest, all_fixed}
 
-both : (a b : Bool) → (a && b) ≡ true → (a ≡ true) × (b ≡ true)
+pub both : (a b : Bool) → (a && b) ≡ true → (a ≡ true) × (b ≡ true)
 both true true h = (refl, refl)
 both true false h = absurd (true≢false (sym h))
 both false b h = absurd (true≢false (sym h))
@@ -72,7 +72,7 @@ bar-no_point b h = grind arith
 bar-no_letter : (b : ℕ) → nat_eq b 95 ≡ true → is_exponent_letter b ≡ false
 bar-no_letter b h = grind arith
 
-digit-no_name : (b : ℕ) → is_digit b ≡ true → is_letter b ≡ false
+pub digit-no_name : (b : ℕ) → is_digit b ≡ true → is_letter b ≡ false
 digit-no_name b h = grind arith
 
 bar-word : (b : ℕ) → nat_eq b 95 ≡ true → is_word_byte b ≡ true
@@ -100,7 +100,7 @@ fraction-none bs h = rw h refl
 exponent-none : (bs : List ℕ) → is_exponent_letter (first bs) ≡ false → exponent bs ≡ 0
 exponent-none bs h = rw h refl
 
-same_number : (m n : ℕ) → nat_eq m n ≡ true → m ≡ n
+pub same_number : (m n : ℕ) → nat_eq m n ≡ true → m ≡ n
 same_number m n h = grind arith
 
 kind-bar : (bs rest : List ℕ) → list_all is_word_byte bs ≡ true → suc (length bs) ≤ kind_suffix (95 ∷ (bs ++ rest))
@@ -236,7 +236,7 @@ number-whole wh fr ex ki rest d f h k o =
 
 -- ---- each token, at the front of a text
 
-letter-word : (b : ℕ) → is_letter b ≡ true → is_word_byte b ≡ true
+pub letter-word : (b : ℕ) → is_letter b ≡ true → is_word_byte b ≡ true
 letter-word b h = rw h refl
 
 word-size : (b : Bool) (n : ℕ) → (if b then spelled n shape.Word else spelled n shape.Broken).size ≡ n

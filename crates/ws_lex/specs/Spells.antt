@@ -1,5 +1,5 @@
 -- What spells a token, whatever is taken: the longest such front of a text is the token there.
-use Rattle.std.specs.Prelude.{◌≡◌, ◌≤◌, ◌⊎◌, ◌+◌, ℕ, Bool, true, false, not, ◌&&◌, List, [], ◌∷◌, ◌++◌, length, nat_eq, if◌then◌else◌}
+use Rattle.std.specs.Prelude.{◌≡◌, ◌≢◌, ◌≤◌, ◌⊎◌, ◌+◌, ℕ, Bool, true, false, not, ◌&&◌, List, [], ◌∷◌, ◌++◌, length, take, drop, nat_eq, if◌then◌else◌}
 use Rattle.std.specs.List.{list_all}
 use Rattle.ws_lex.specs.declared.piece.Shape.{Shape}
 use Rattle.ws_lex.specs.declared.piece.Shape.TheVariants as shape
@@ -80,3 +80,7 @@ Spells s bytes rest = IsOneOf all_fixed s bytes
 -- no longer front of the text spells a token
 abbrev pub IsLongest : List ℕ → Type 0
 IsLongest text = (s : Shape) (bytes rest : List ℕ) → bytes ++ rest ≡ text → Spells s bytes rest → length bytes ≤ (spell text).size
+
+-- the piece taken is one that is spelled there, or broken
+abbrev pub IsSpelled : List ℕ → Type 0
+IsSpelled text = (spell text).shape ≢ shape.Broken → Spells (spell text).shape (take (spell text).size text) (drop (spell text).size text)

@@ -2,11 +2,16 @@
 
 ghost use Rattle.std.specs.Prelude.{List, ℕ};
 ghost use Rattle.ws_lex.specs.Rows.{Hold, before_rows, directive_rows, line_rows, statement_rows, token_rows};
-ghost use Rattle.ws_lex.specs.Spells.{IsLongest};
+ghost use Rattle.ws_lex.specs.Spells.{IsLongest, IsSpelled};
 
 /// The token taken at the front of a text is the longest: no longer front spells one.
 pub fn the_longest_token_is_taken()
     ensures { (text : List ℕ) → IsLongest text }
+{}
+
+/// The token taken at the front of a text is spelled there, and is of the shape that is given.
+pub fn the_token_taken_is_spelled()
+    ensures { (text : List ℕ) → IsSpelled text }
 {}
 
 /// The definitions give small sources the answers that were worked by hand from the source form.
