@@ -9,3 +9,4 @@ pub mod Ascii
 pub mod Order
 pub mod Kept
 pub mod Taken
+pub mod Nothing

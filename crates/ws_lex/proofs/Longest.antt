@@ -270,7 +270,7 @@ or_left : (a b : Bool) → a ≡ true → (a || b) ≡ true
 or_left a b h = rw h refl
 
 -- whether a number begins here, by its first two parts
-number-begins : (wh fr later : List ℕ) → list_all is_digit wh ≡ true → is_begun wh fr ≡ true → is_fraction fr ≡ true →
+pub number-begins : (wh fr later : List ℕ) → list_all is_digit wh ≡ true → is_begun wh fr ≡ true → is_fraction fr ≡ true →
     (is_letter (first (wh ++ (fr ++ later))) ≡ false) × (begins_number (wh ++ (fr ++ later)) ≡ true)
 number-begins [] [] later d s f = absurd (true≢false (sym s))
 number-begins [] (b ∷ []) later d s f = absurd (true≢false (sym s))
@@ -318,13 +318,13 @@ other : (b : Bool) → not b ≡ true → b ≡ false
 other true h = absurd (true≢false (sym h))
 other false h = refl
 
-before_quote-inner : (q : ℕ) (inner rest : List ℕ) → list_all (λ b. not (nat_eq q b)) inner ≡ true → before_quote q ((inner ++ q ∷ []) ++ rest) ≡ length inner
+pub before_quote-inner : (q : ℕ) (inner rest : List ℕ) → list_all (λ b. not (nat_eq q b)) inner ≡ true → before_quote q ((inner ++ q ∷ []) ++ rest) ≡ length inner
 before_quote-inner q [] rest h = rw (itself q) refl
 before_quote-inner q (b ∷ bs) rest h =
     let parts = both (not (nat_eq q b)) (list_all (λ c. not (nat_eq q c)) bs) h in
     rw (other (nat_eq q b) parts.0) (ap suc (before_quote-inner q bs rest parts.1))
 
-length-quoted : (q : ℕ) (inner rest : List ℕ) → length inner < length ((inner ++ q ∷ []) ++ rest)
+pub length-quoted : (q : ℕ) (inner rest : List ℕ) → length inner < length ((inner ++ q ∷ []) ++ rest)
 length-quoted q [] rest = omega arith
 length-quoted q (b ∷ bs) rest = omega (arith, length-quoted q bs rest)
 
@@ -364,11 +364,11 @@ fixed-some (f ∷ fs) bs h =
     let parts = both (nat_le 1 (length f.0)) (list_all (λ g. nat_le 1 (length g.0)) fs) h in
     some-if (starts f.0 bs) (spelled (length f.0) f.1) (fixed fs bs) (is_some (length f.0) parts.0) (fixed-some fs bs parts.1)
 
-abbrev Each : (List ℕ → Type 0) → List (List ℕ × Shape) → Type 0
+abbrev pub Each : (List ℕ → Type 0) → List (List ℕ × Shape) → Type 0
 Each P [] = Unit {0}
 Each P (f ∷ fs) = P f.0 × Each P fs
 
-one-of : (P : List ℕ → Type 0) (table : List (List ℕ × Shape)) (s : Shape) (bytes : List ℕ) → Each P table → IsOneOf table s bytes → P bytes
+pub one-of : (P : List ℕ → Type 0) (table : List (List ℕ × Shape)) (s : Shape) (bytes : List ℕ) → Each P table → IsOneOf table s bytes → P bytes
 one-of P [] s bytes all h = absurd h
 one-of P (f ∷ fs) s bytes all (inl e) = subst P (sym e.1) all.0
 one-of P (f ∷ fs) s bytes all (inr h) = one-of P fs s bytes all.1 h

@@ -281,7 +281,7 @@ quote-front (q ∷ rest) h = quote-token q rest (nat_eq q 34) (nat_eq q 39) refl
 
 -- ---- the tokens of one spelling
 
-abbrev is_fixed : Shape → Bool
+abbrev pub is_fixed : Shape → Bool
 is_fixed shape.Word = false
 is_fixed shape.Digits = false
 is_fixed shape.Broken = false

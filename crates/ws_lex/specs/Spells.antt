@@ -1,5 +1,5 @@
 -- What spells a token, whatever is taken: the longest such front of a text is the token there.
-use Rattle.std.specs.Prelude.{◌≡◌, ◌≢◌, ◌≤◌, ◌⊎◌, ◌+◌, ℕ, Bool, true, false, not, ◌&&◌, List, [], ◌∷◌, ◌++◌, length, take, drop, nat_eq, if◌then◌else◌}
+use Rattle.std.specs.Prelude.{◌≡◌, ◌≢◌, ◌≤◌, ◌<◌, ◌⊎◌, ◌+◌, ℕ, Bool, true, false, not, ◌&&◌, List, [], ◌∷◌, ◌++◌, length, take, drop, nat_eq, if◌then◌else◌}
 use Rattle.std.specs.List.{list_all}
 use Rattle.ws_lex.specs.declared.piece.Shape.{Shape}
 use Rattle.ws_lex.specs.declared.piece.Shape.TheVariants as shape
@@ -84,3 +84,9 @@ IsLongest text = (s : Shape) (bytes rest : List ℕ) → bytes ++ rest ≡ text 
 -- the piece taken is one that is spelled there, or broken
 abbrev pub IsSpelled : List ℕ → Type 0
 IsSpelled text = (spell text).shape ≢ shape.Broken → Spells (spell text).shape (take (spell text).size text) (drop (spell text).size text)
+
+-- where the piece is broken, no front spells a token but a name of more than 63 bytes
+abbrev pub IsNothing : List ℕ → Type 0
+IsNothing text =
+    (spell text).shape ≡ shape.Broken →
+    (s : Shape) (bytes rest : List ℕ) → bytes ++ rest ≡ text → Spells s bytes rest → (s ≡ shape.Word) × (63 < (spell text).size)

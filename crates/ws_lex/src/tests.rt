@@ -1,6 +1,9 @@
 //! The sentences of the source form, each with a text that keeps it and one that breaks it; and what the tokens of a text are.
 
-use crate::laws::{the_longest_token_is_taken, the_token_taken_is_spelled, worked_rows_hold};
+use crate::laws::{
+    nothing_is_passed_over, the_longest_token_is_taken, the_token_taken_is_spelled,
+    worked_rows_hold,
+};
 use crate::lex::tokens;
 use crate::token::{LexEnd, TokenKind, TokenList};
 use std::alloc::{AllocError, Global};
@@ -195,6 +198,7 @@ fn a_refusal_keeps_the_statements_before_its_line(rt: HostRuntime) -> Result<(),
 
 #[test]
 fn the_laws_do_nothing() {
+    nothing_is_passed_over();
     the_longest_token_is_taken();
     the_token_taken_is_spelled();
     worked_rows_hold();
