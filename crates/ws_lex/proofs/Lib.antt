@@ -1,4 +1,4 @@
-mod Rows
+pub mod Rows
 pub mod Runs
 pub mod Ends
 pub mod Pieces
@@ -8,3 +8,5 @@ pub mod Longest
 pub mod Ascii
 pub mod Order
 pub mod Kept
+pub mod Taken
+pub mod Nothing
