@@ -2,3 +2,4 @@ pub mod Shapes
 pub mod Subscripts
 pub mod Values
 pub mod WellFormed
+pub mod Laws
