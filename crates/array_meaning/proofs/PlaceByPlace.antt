@@ -8,7 +8,8 @@ use Rattle.ws_base.specs.Outcomes.{Staged, ◌>>=◌, joined, each, rows, pair_u
 use Rattle.ws_space.specs.Shapes.{count}
 use Rattle.ws_space.specs.Values.{value_at, element}
 use Rattle.ws_space.specs.Maps.{pair_value}
-use Rattle.ws_space.specs.Sections.{here, beyond, stepped}
+use Rattle.ws_space.specs.Subscripts.{stepped}
+use Rattle.ws_space.specs.Sections.{here, beyond}
 use Rattle.array_meaning.specs.declared.term.Term.{Term}
 use Rattle.array_meaning.specs.declared.term.Term.TheVariants.{Scalar, Listed, Section', Call'}
 use Rattle.array_meaning.specs.declared.term.Pick.TheVariants.{One, Full, Range, Vector}

@@ -2,7 +2,7 @@
 use Rattle.std.specs.Prelude.{ℕ, ◌/◌, ◌%◌, List, [], ◌∷◌, map, ℤ}
 use Rattle.ws_space.specs.declared.shape.Triplet.{Triplet}
 use Rattle.ws_space.specs.Shapes.{Extents, count}
-use Rattle.ws_space.specs.Sections.{stepped}
+use Rattle.ws_space.specs.Subscripts.{stepped}
 
 -- how many values each index has
 abbrev pub lengths : List Triplet → Extents

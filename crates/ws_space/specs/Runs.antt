@@ -12,7 +12,7 @@ use Rattle.ws_space.specs.declared.state.Ended.TheVariants.{Done, Faulted}
 use Rattle.ws_space.specs.Shapes.{count}
 use Rattle.ws_space.specs.Values.{Name, with_state}
 use Rattle.ws_space.specs.Faults.{at_line}
-use Rattle.ws_space.specs.Sections.{stepped}
+use Rattle.ws_space.specs.Subscripts.{stepped}
 
 -- one execution of a region: the line of its directive, and the state as it is entered
 pub record Entry : Type 0 where

@@ -8,6 +8,7 @@ use Rattle.ws_space.specs.declared.shape.Triplet.{Triplet}
 use Rattle.ws_space.specs.declared.state.ArrayValue.{ArrayValue}
 use Rattle.ws_space.specs.declared.shape.TheConstants.{ELEMENT_LIMIT}
 use Rattle.ws_space.specs.Shapes.{Extents, dims, size, upper, within, count, place}
+use Rattle.ws_space.specs.Subscripts.{stepped}
 use Rattle.ws_space.specs.Values.{element}
 
 -- ---- what is looked at once, before any element
@@ -40,10 +41,6 @@ here n at = map (λ p. p % n) at
 
 abbrev pub beyond : ℕ → List ℕ → List ℕ
 beyond n at = map (λ p. p / n) at
-
--- the k-th subscript of `l:u:s`, from 0
-abbrev pub stepped : Triplet → ℕ → ℤ
-stepped t k = t.l +ℤ pos k *ℤ t.s
 
 abbrev pub triplet_column : Triplet → List ℕ → List ℤ
 triplet_column t at = map (λ p. stepped t (p % count t)) at
