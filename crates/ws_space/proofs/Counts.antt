@@ -1,15 +1,17 @@
 -- The count of a triplet is the length of the list that it selects.
-use Rattle.std.proofs.Common.{◌≡◌, ◌≢◌, ℕ, ◌^◌, w64, to_z, of_z, FitsSigned, zero, suc, ◌+◌, ◌*◌, ◌/◌, ◌<◌, ◌≤◌, ℤ, pos, negsuc, neg_ℤ, ◌+ℤ◌, ◌-ℤ◌, ◌*ℤ◌, ◌≤ℤ◌, Bool, true, false, [], ◌∷◌, map, filter, length, get_or, refl, ap, ◌∙◌, arith, unsigned_abs}
+use Rattle.std.proofs.Common.{sym, Some, ◌≡◌, ◌≢◌, ℕ, ◌^◌, w64, to_z, of_z, FitsSigned, zero, suc, ◌+◌, ◌*◌, ◌/◌, ◌<◌, ◌≤◌, ℤ, pos, negsuc, neg_ℤ, ◌+ℤ◌, ◌-ℤ◌, ◌*ℤ◌, ◌≤ℤ◌, Bool, true, false, [], ◌∷◌, map, filter, length, get_or, refl, ap, ◌∙◌, arith, unsigned_abs}
 use Rattle.std.specs.Prelude.{nat_lt, int_le, int_lt, int_div}
 use Rattle.std.specs.Bool.{Decides}
 use Rattle.std.proofs.lemmas.Bool.{lt-ltb, le-ltb, ltb-true, ltb-false}
 use Rattle.std.proofs.lemmas.Bool.Decides.{same_from_decides}
 use Rattle.std.proofs.lemmas.Int.{ints, fits_signed_from_abs, to_z-of_z}
 use Rattle.std.proofs.lemmas.List.{length-map, get_or-map}
+use Rattle.std.proofs.lemmas.Option.{slice_get-get_or}
 use Rattle.std.proofs.lemmas.Nat.{le-div}
 use Rattle.std.proofs.Math.Nat.{div-le_self, div-mul-le_self, mul-le-mul_right}
 use Rattle.ws_space.specs.declared.shape.Triplet.{Triplet}
 use Rattle.ws_space.specs.Shapes.{natural, count, places_from}
+use Rattle.ws_space.specs.Laws.{CountsSelected}
 use Rattle.ws_space.specs.Subscripts.{is_up_to_end, stepped, selected}
 use Rattle.ws_space.proofs.Distances.{le_true, true_le}
 use Rattle.ws_space.proofs.Places.{length-places_from, get_or-places_from}
@@ -134,3 +136,11 @@ quotient_fits z d h = fits_signed_from_abs w64 (int_div z d) (omega (arith, unsi
 
 pub divided : (x y z d : ℤ) → x ≡ z → y ≡ d → unsigned_abs x < 2 ^ 63 → to_z w64 (of_z w64 (int_div x y)) ≡ int_div z d
 divided x y z d e f h = to_z-of_z w64 (int_div x y) (quotient_fits x y h) ∙ rw (e, f) refl
+
+pub CountsSelected-all : (t : Triplet) → t.s ≢ pos 0 → CountsSelected t
+CountsSelected-all t h = record {
+  count_is = sym (length-selected t h);
+  steps = λ k low.
+      let n : length (selected t) ≡ count t = length-selected t h in
+      slice_get-get_or (selected t) k (pos 0) (omega arith) ∙ ap Some (get_or-selected t k (pos 0) h low);
+}

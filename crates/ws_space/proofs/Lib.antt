@@ -2,3 +2,4 @@ pub mod Distances
 pub mod Places
 pub mod Counts
 pub mod Whole
+pub mod Replaced

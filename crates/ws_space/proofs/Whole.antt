@@ -1,8 +1,9 @@
 -- An array of rank up to 3 is one of rank 3 whose unused dimensions have one element.
-use Rattle.std.proofs.Common.{◌≡◌, ℕ, zero, suc, ◌+◌, ◌*◌, ◌/◌, ◌%◌, ◌<◌, ◌≤◌, ℤ, pos, ◌+ℤ◌, ◌-ℤ◌, Bool, true, false, List, [], ◌∷◌, length, Some, Ok, Err, Result, min, if◌then◌else◌, refl, sym, ap, ◌∙◌, arith}
+use Rattle.std.proofs.Common.{◌≡◌, ℕ, zero, suc, ◌+◌, ◌*◌, ◌/◌, ◌%◌, ◌<◌, ◌≤◌, ℤ, pos, ◌+ℤ◌, ◌-ℤ◌, Bool, true, false, List, [], ◌∷◌, length, Some, Ok, Err, Result, if◌then◌else◌, refl, sym, ap, ◌∙◌, arith}
 use Rattle.std.specs.List.{All, slice_get}
 use Rattle.std.proofs.lemmas.Int.{ints}
 use Rattle.std.proofs.lemmas.List.{length-take}
+use Rattle.std.proofs.lemmas.List.Elements.{All-nil, All-cons}
 use Rattle.std.proofs.lemmas.Nat.{mul-add-lt, mod_below}
 use Rattle.std.proofs.Math.Nat.{mul_comm, min-eq_left}
 use Rattle.ws_base.specs.declared.fault.FaultName.{FaultName}
@@ -198,13 +199,25 @@ place_fits a b c p q r m few hp hq hr e =
     let outer : p + a * m < a * (b * c) = plane_below a (b * c) p m hp inner in
     omega arith
 
-pub saturated : (top a b c : ℕ) → a * (b * (c * 1)) ≤ top → min (min (a * b) top * c) top ≡ a * (b * (c * 1))
-saturated top a b zero h = omega arith
-saturated top a b (suc c) h =
-    let all : a * (b * (suc c * 1)) ≡ a * b * suc c = omega arith in
-    let part : a * b ≤ top = omega arith in
-    let whole : a * b * suc c ≤ top = omega arith in
-    rw (min-eq_left part, min-eq_left whole) (sym all)
+all_from_three : (ds : List Dim) → length ds ≤ 3 → HasLast (shape_of ds).d1 → HasLast (shape_of ds).d2 → HasLast (shape_of ds).d3 → All HasLast ds
+all_from_three [] h p q r = All-nil HasLast
+all_from_three (a ∷ []) h p q r = All-cons HasLast a [] p (All-nil HasLast)
+all_from_three (a ∷ b ∷ []) h p q r = All-cons HasLast a (b ∷ []) p (All-cons HasLast b [] q (All-nil HasLast))
+all_from_three (a ∷ b ∷ c ∷ []) h p q r = All-cons HasLast a (b ∷ c ∷ []) p (All-cons HasLast b (c ∷ []) q (All-cons HasLast c [] r (All-nil HasLast)))
+all_from_three (a ∷ b ∷ c ∷ d ∷ more) h p q r = four (length more) h
+
+pub IsShape-from_parts : (s w : Shape) → w ≡ shape_of (dims s) → s.rank ≤ 3 → elements s ≤ 65536 → (0 < elements s → HasLast w.d1 × HasLast w.d2 × HasLast w.d3) → IsShape s
+IsShape-from_parts s w e small few last = record {
+  rank = small;
+  few = few;
+  last = λ some. let l = last some in all_from_three (dims s) (length-dims_le s) (rw (← e) l.0) (rw (← e) l.1) (rw (← e) l.2);
+}
+
+-- without the factor 1 that `size` has
+pub product-whole : (s w : Shape) → w ≡ shape_of (dims s) → w.d1.extent * (w.d2.extent * w.d3.extent) ≡ elements s
+product-whole s w e =
+    let one : w.d3.extent * 1 ≡ w.d3.extent = omega arith in
+    ap (λ k. w.d1.extent * (w.d2.extent * k)) (sym one) ∙ size-whole s w e
 
 pub whole_at : (s w : Shape) (p : ℕ) (i j k : ℤ) → w ≡ shape_of (dims s) → i ≡ w.d1.lower +ℤ pos (p % w.d1.extent) → j ≡ w.d2.lower +ℤ pos (p / w.d1.extent % w.d2.extent) → k ≡ w.d3.lower +ℤ pos (p / w.d1.extent / w.d2.extent % w.d3.extent) → ◌≡◌ {A = Subs} (record { rank = w.rank; s1 = i; s2 = j; s3 = k }) (subs_of (element_at (dims s) p))
 whole_at s w p i j k e first second third = rw (first, second, third, e) (three_at_is (dims s) p (length-dims_le s))

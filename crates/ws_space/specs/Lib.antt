@@ -2,3 +2,12 @@ pub mod Shapes
 pub mod Subscripts
 pub mod Values
 pub mod WellFormed
+pub mod Laws
+pub mod Faults
+pub mod Maps
+pub mod Sections
+pub mod Inquiries
+pub mod Replace
+pub mod Masks
+pub mod Combinations
+pub mod Runs

@@ -1,13 +1,13 @@
 //! The elements of an array in array element order, where the first subscript varies fastest (Fortran 2018, 9.5.3.3).
 
-ghost use Rattle.std.specs.Prelude.{◌≡◌, ℕ, suc, ◌+◌, ◌*◌, ◌%◌, ◌<◌, ◌≤◌, ◌+ℤ◌, pos, false, true, length, MatchOption, IsOk, Some, Ok, Err, ⊤};
+ghost use Rattle.std.specs.Prelude.{IsTrue, ◌↔◌, ◌≡◌, ℕ, suc, ◌+◌, ◌*◌, ◌%◌, ◌<◌, ◌≤◌, ◌+ℤ◌, pos, false, true, length, MatchOption, IsOk, Some, Ok, Err, ⊤};
 ghost use Rattle.std.specs.List.{Contains, slice_get};
 ghost use Rattle.std.specs.Option.{option_map};
 ghost use Rattle.ws_base.specs.declared.fault.FaultName.TheVariants.{Bounds};
 ghost use Rattle.ws_space.specs.Shapes.{dims, shape_of, within, distance};
 ghost use Rattle.ws_space.specs.Shapes as shapes;
 ghost use Rattle.ws_space.specs.Subscripts.{listed, subs_of, all_subscripts};
-ghost use Rattle.ws_space.specs.WellFormed.{elements, IsFilled, IsShape};
+ghost use Rattle.ws_space.specs.WellFormed.{elements, HasLast, IsFilled, IsShape};
 
 use crate::shape::{Dim, ELEMENT_LIMIT, Shape, Subs};
 
@@ -80,18 +80,60 @@ fn with_unused_ones(subs: &Subs) -> Subs
     }
 }
 
+/// The product of the extents. One above the limit may be given as another that is.
+fn product(whole: Shape) -> u64
+    ensures few { whole.d1.extent * (whole.d2.extent * whole.d3.extent) ≤ ELEMENT_LIMIT → result ≡ whole.d1.extent * (whole.d2.extent * whole.d3.extent) }
+    ensures many { ELEMENT_LIMIT < whole.d1.extent * (whole.d2.extent * whole.d3.extent) → ELEMENT_LIMIT < result }
+{
+    whole
+        .d1
+        .extent
+        .saturating_mul(whole.d2.extent)
+        .saturating_mul(whole.d3.extent)
+}
+
+/// Whether the last subscript is a default integer.
+fn has_last(dim: Dim) -> bool
+    ensures { IsTrue result ↔ HasLast dim }
+{
+    if dim.extent > 4_294_967_296 {
+        return false;
+    }
+    i64::from(dim.lower) + dim.extent as i64 - 1 <= 2_147_483_647
+}
+
+fn have_last(whole: Shape) -> bool
+    ensures { IsTrue result ↔ (HasLast whole.d1 × HasLast whole.d2 × HasLast whole.d3) }
+{
+    has_last(whole.d1) && has_last(whole.d2) && has_last(whole.d3)
+}
+
+/// Whether the other functions take this shape: rank at most 3, at most 65,536 elements, and where it has any, last
+/// subscripts that are default integers.
+pub fn is_shape(shape: &Shape) -> bool
+    ensures { IsTrue result ↔ IsShape shape.now }
+{
+    if shape.rank > 3 {
+        return false;
+    }
+    let whole = with_unused(shape);
+    let elements = product(whole);
+    if elements > ELEMENT_LIMIT {
+        return false;
+    }
+    if elements == 0 {
+        return true;
+    }
+    have_last(whole)
+}
+
 /// How many elements an array of this shape has, which is the product of its extents.
 pub fn size(shape: &Shape) -> u64
     requires { elements shape.now ≤ ELEMENT_LIMIT }
     ensures listed { result ≡ length (all_subscripts shape.now) }
     ensures product { result ≡ elements shape.now }
 {
-    let whole = with_unused(shape);
-    whole
-        .d1
-        .extent
-        .saturating_mul(whole.d2.extent)
-        .saturating_mul(whole.d3.extent)
+    product(with_unused(shape))
 }
 
 /// How far a subscript is above the lower bound, where it is within the dimension.
