@@ -29,19 +29,19 @@ use Rattle.array_meaning.proofs.LeftSides.{Holds, Selects, selects}
 
 -- ---- values that pass
 
-abbrev Passes : Bool → ℤ → Type 0
+abbrev pub Passes : Bool → ℤ → Type 0
 Passes b z = is_value b z ≡ true
 
-zero_passes : (b : Bool) → Passes b (pos 0)
+pub zero_passes : (b : Bool) → Passes b (pos 0)
 zero_passes true = refl
 zero_passes false = refl
 
-value_at-passes : (b : Bool) (xs : List ℤ) (p : ℕ) → All (Passes b) xs → Passes b (value_at xs p)
+pub value_at-passes : (b : Bool) (xs : List ℤ) (p : ℕ) → All (Passes b) xs → Passes b (value_at xs p)
 value_at-passes b [] p h = zero_passes b
 value_at-passes b (x ∷ xs) zero h = All-head (Passes b) x xs h
 value_at-passes b (x ∷ xs) (suc p) h = value_at-passes b xs p (All-tail (Passes b) x xs h)
 
-either : (b c : Bool) (y z : ℤ) → Passes b y → Passes b z → Passes b (if c then y else z)
+pub either : (b c : Bool) (y z : ℤ) → Passes b y → Passes b z → Passes b (if c then y else z)
 either b true y z p q = p
 either b false y z p q = q
 
