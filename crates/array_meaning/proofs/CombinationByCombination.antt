@@ -1,5 +1,5 @@
 -- The values of an expression over combinations are those at each combination alone.
-use Rattle.std.proofs.Common.{◌≡◌, refl, sym, ap, ◌∙◌, Bool, true, false, List, [], ◌∷◌, map, Option, Some, None, Ok, ℤ}
+use Rattle.std.proofs.Common.{◌≡◌, sym, ap, ◌∙◌, Bool, true, false, List, [], ◌∷◌, map, Option, Some, Ok, ℤ}
 use Rattle.std.specs.Prelude.{if◌then◌else◌, pos}
 use mathlib.Core.Path.{fun_ext}
 use Rattle.ws_base.specs.declared.op.CallWord.{CallWord}

@@ -1,9 +1,8 @@
 -- A step leaves every variable allocated and bounded as it was, but for a left side that may change its shape.
 use Rattle.std.proofs.Common.{◌≡◌, refl, sym, ap, ◌∙◌, ℕ, zero, suc, Bool, true, false, List, [], ◌∷◌, ◌++◌, Option, Some, None, Result, Ok, Err, IfOk, ℤ, bytes_eq, take}
 use mathlib.Core.Former.{Count}
-use Rattle.std.specs.Prelude.{map, not, ◌&&◌, if◌then◌else◌}
+use Rattle.std.specs.Prelude.{map, if◌then◌else◌}
 use Rattle.ws_base.specs.declared.fault.Fault.{Fault}
-use Rattle.ws_base.specs.Outcomes.{Staged}
 use Rattle.ws_space.specs.declared.shape.Dim.{Dim}
 use Rattle.ws_space.specs.declared.state.ArrayValue.{ArrayValue}
 use Rattle.ws_space.specs.declared.state.Var.{Var}
@@ -16,21 +15,19 @@ use Rattle.ws_space.specs.Masks.{Split, active, shapes_of}
 use Rattle.ws_space.specs.Combinations.{lengths}
 use Rattle.ws_space.specs.Replace.{replaced, unless_repeated, filled}
 use Rattle.ws_tree.specs.declared.expr.Expr.{Expr}
-use Rattle.ws_tree.specs.declared.expr.Expr.TheVariants.{Number, TooWide, Truth, Named, Part', Call', Vector', Paren', Unary', Binary'}
 use Rattle.ws_tree.specs.declared.stmt.Body.{Body}
 use Rattle.ws_tree.specs.declared.stmt.Body.TheVariants.{Assign, Masked', Forall', Loop', Allocate, Deallocate, Read, Shared', Unsupported, TooDeep}
 use Rattle.ws_tree.specs.Trees.{Stmts, end_stmts, more_stmts}
-use Rattle.ws_tree.specs.declared.expr.Expr.TheVariants as expr
 use Rattle.array_meaning.specs.declared.world.World.{World}
 use Rattle.array_meaning.specs.declared.term.Term.{Term}
-use Rattle.array_meaning.specs.Terms.{terms_open}
 use Rattle.array_meaning.specs.Stage2.{operands, values, targets, array_of}
-use Rattle.array_meaning.specs.Stage1.{walk, picks, allocated, selected, whole_array}
-use Rattle.array_meaning.specs.Assign.{Target, selection, movable, target, whole_target, is_name_in, may_move, target_name, step_shape, replaced_in, carried_out}
+use Rattle.array_meaning.specs.Stage1.{walk}
+use Rattle.array_meaning.specs.Assign.{Target, selection, movable, target, target_name, step_shape, replaced_in, carried_out}
 use Rattle.array_meaning.specs.Where.{Mask, Assignment, Step, mask_terms, operands_of, splits_after, last_line, run_part, run_step, run_steps, where_steps, run_where}
 use Rattle.array_meaning.specs.Forall.{Combination, combination, header, mask_places, over, over_targets, replaced_over, first_line, forall_part, forall_block, run_forall}
 use Rattle.array_meaning.specs.Laws.{KeepsShapes, WhereKeepsShapes, ForallKeepsShapes, dims_held, AssignmentKeepsShapes, MaskedAssignmentKeepsShapes, ForallAssignmentKeepsShapes}
-use Rattle.array_meaning.proofs.Chains.{after_each, after_fact}
+use Rattle.array_meaning.proofs.Chains.{after_each, after_fact, at_line-keeps}
+use Rattle.array_meaning.proofs.LeftSides.{Holds, Selects, selects}
 
 -- ---- the variables
 
@@ -74,46 +71,12 @@ unless_repeated-dims line places (Some k) a ts xs = tt
 replaced-dims : (line : ℕ) (places : List ℕ) (a : ArrayValue) (ts : List ℕ) (xs : List ℤ) → IfOk (replaced line places a ts xs) (λ s. dims_held s ≡ Some (dims a.shape))
 replaced-dims line places a ts xs = unless_repeated-dims line places (first_repeat ts) a ts xs
 
--- ---- left sides
+-- ---- the left side
 
--- a selection of what the variable holds
-abbrev Selects : VarState → Target → Type 0
-Selects s (selection t) = (a : ArrayValue) × (array_of t ≡ Some a) × (dims_held s ≡ Some (dims a.shape))
-Selects s (movable t) = ⊥
-
-whole_array-array : (a : ArrayValue) → array_of (whole_array a) ≡ Some a
-unfolding terms_open
-whole_array-array a = refl
-
-selects_whole : (s : VarState) → IfOk (whole_target false s) (Selects s)
-selects_whole (Scalar v) = (record { shape = shape_of []; values = v ∷ [] }, whole_array-array _, refl)
-selects_whole (Array a) = (a, whole_array-array a, refl)
-selects_whole (Unallocated r) = tt
-
-selects_name : (b : Bool) (s : VarState) → b ≡ false → IfOk (whole_target b s) (Selects s)
-selects_name true s e = absurd (cc)
-selects_name false s e = selects_whole s
-
-allocated-dims : (s : VarState) → IfOk (allocated s) (λ a. dims_held s ≡ Some (dims a.shape))
-allocated-dims (Scalar v) = tt
-allocated-dims (Array a) = refl
-allocated-dims (Unallocated r) = tt
-
-selects : (in_where : Bool) (w : World) (left : Expr) → (not in_where && may_move w left) ≡ false → IfOk (target in_where w left) (Selects (state_of w.vars (target_name left)))
-unfolding terms_open
-selects in_where w (Named x) still = selects_name (not in_where && is_name_in w.allocatables x) (state_of w.vars x) still
-selects in_where w (Part' x h subs) still =
-    after_fact (λ a. dims_held (state_of w.vars x) ≡ Some (dims a.shape)) _ (allocated (state_of w.vars x)) _ (allocated-dims (state_of w.vars x)) (λ a same.
-    after_each _ (picks w (dims a.shape) subs) _ (λ ps. after_each _ (selected a ps) _ (λ qs. (a, refl, same))))
-selects in_where w (Number n) still = tt
-selects in_where w TooWide still = tt
-selects in_where w expr.TooDeep still = tt
-selects in_where w (Truth b) still = tt
-selects in_where w (Call' word h es) still = tt
-selects in_where w (Vector' h es) still = tt
-selects in_where w (Paren' h es) still = tt
-selects in_where w (Unary' op h es) still = tt
-selects in_where w (Binary' op h es k fs) still = tt
+holds-dims : (s : VarState) (a : ArrayValue) → Holds s a → dims_held s ≡ Some (dims a.shape)
+holds-dims (Scalar v) a h = rw h refl
+holds-dims (Array b) a h = rw h refl
+holds-dims (Unallocated r) a h = absurd h
 
 in_known : (line : ℕ) (places : List ℕ) (o : Option ArrayValue) (a : ArrayValue) (ts : List ℕ) (xs : List ℤ) → o ≡ Some a → IfOk (replaced_in line places o ts xs) (λ s. dims_held s ≡ Some (dims a.shape))
 in_known line places o a ts xs e = rw e (replaced-dims line places a ts xs)
@@ -126,11 +89,7 @@ carried_out-shapes : (w : World) (line : ℕ) (right : Expr) (r : Term) (e : Ext
 carried_out-shapes w line right r e places old (movable s) h = absurd h
 carried_out-shapes w line right r e places old (selection t) h =
     after_each _ (at_places line places (values r places)) _ (λ xs. after_each _ (at_places line places (targets t places)) _ (λ ts.
-    same_if_ok (replaced_in line places (array_of t) ts xs) (dims_held old) (Some (dims h.0.shape)) h.2 (in_known line places (array_of t) h.0 ts xs h.1)))
-
-at_line-keeps : {A : Type 0} (P : A → Type 0) (line : ℕ) (r : Staged A) → IfOk r P → IfOk (at_line line r) P
-at_line-keeps P line (Ok x) h = h
-at_line-keeps P line (Err t) h = tt
+    same_if_ok (replaced_in line places (array_of t) ts xs) (dims_held old) (Some (dims h.0.shape)) (holds-dims old h.0 h.2) (in_known line places (array_of t) h.0 ts xs h.1)))
 
 -- ---- steps
 

@@ -1,5 +1,6 @@
 -- What holds of the meaning, beside its equations.
 use Rattle.std.specs.Prelude.{◌≡◌, ℕ, ◌<◌, Bool, true, false, ◌&&◌, ◌||◌, List, [], ◌∷◌, map, length, Option, Some, None, Result, Ok, Err, ℤ, pos, bytes_eq, IfOk}
+use Rattle.std.specs.List.{All, AllPass}
 use mathlib.Core.Former.{Count}
 use Rattle.ws_space.specs.declared.shape.Dim.{Dim}
 use Rattle.ws_space.specs.declared.state.ArrayValue.{ArrayValue}
@@ -7,14 +8,23 @@ use Rattle.ws_space.specs.declared.state.VarState.{VarState}
 use Rattle.ws_space.specs.declared.state.VarState.TheVariants.{Scalar, Array, Unallocated}
 use Rattle.ws_space.specs.Shapes.{Extents, dims, extents_of, size, all_places}
 use Rattle.ws_space.specs.Values.{Name, value_at, is_among, state_of}
+use Rattle.ws_space.specs.WellFormed.{is_value, IsWellFormedVar}
+use Rattle.ws_space.specs.Replace.{is_logical}
 use Rattle.ws_space.specs.Masks.{Split, chosen}
 use Rattle.ws_tree.specs.declared.expr.Expr.{Expr}
 use Rattle.ws_tree.specs.declared.stmt.Index.{Index}
 use Rattle.ws_tree.specs.declared.stmt.Body.{Body}
 use Rattle.ws_tree.specs.Trees.{Stmts}
 use Rattle.array_meaning.specs.declared.world.World.{World}
+use Rattle.ws_base.specs.declared.op.BinOp.{BinOp}
+use Rattle.ws_base.specs.declared.op.BinOp.TheVariants as bin
+use Rattle.ws_base.specs.declared.op.UnOp.TheVariants as un
+use Rattle.ws_base.specs.declared.op.CallWord.TheVariants as word
 use Rattle.array_meaning.specs.declared.term.Term.{Term}
+use Rattle.array_meaning.specs.declared.term.Term.TheVariants as term
+use Rattle.array_meaning.specs.Terms.{Terms, end_terms, more_terms, unary_term, binary_term}
 use Rattle.array_meaning.specs.Stage2.{values, targets, array_of}
+use Rattle.array_meaning.specs.Stage1.{walk}
 use Rattle.array_meaning.specs.Assign.{selection, target_name, may_move, assign, carried_out}
 use Rattle.array_meaning.specs.Where.{Mask, Assignment, run_assignment, run_where}
 use Rattle.array_meaning.specs.Forall.{Combination, over, forall_assign, run_forall}
@@ -129,3 +139,64 @@ WhereKeepsShapes = (w : World) (line : ℕ) (body : Body) → IfOk (run_where w 
 
 abbrev pub ForallKeepsShapes : Type 0
 ForallKeepsShapes = (m : Count) (w : World) (line : ℕ) (indexes : List Index) (test : Option Expr) (stmts : Stmts m) → IfOk (run_forall w line indexes test stmts) (KeepsShapes w)
+
+-- ---- a step keeps the variables well formed, where the values of its right side have the type of its left side
+
+abbrev pub AreWellFormed : World → Type 0
+AreWellFormed w = All IsWellFormedVar w.vars
+
+-- values of LOGICAL, or of INTEGER, wherever there are any
+abbrev pub GivesValues : Bool → Term → Type 0
+GivesValues is_truth r = (places : List ℕ) → IfOk (values r places) (AllPass (is_value is_truth))
+
+abbrev pub AssignmentKeepsWellFormed : Type 0
+AssignmentKeepsWellFormed =
+    (w : World) (line : ℕ) (left right : Expr) → may_move w left ≡ false → AreWellFormed w → IfOk (walk w right) (GivesValues (is_logical w.vars (target_name left))) →
+    IfOk (assign w line left right) AreWellFormed
+
+abbrev pub MaskedAssignmentKeepsWellFormed : Type 0
+MaskedAssignmentKeepsWellFormed =
+    (w : World) (ss : List Split) (ms : List Mask) (a : Assignment) → AreWellFormed w → IfOk (walk w a.right) (GivesValues (is_logical w.vars (target_name a.left))) →
+    IfOk (run_assignment (w, ss) ms a) (λ r. AreWellFormed r.0)
+
+abbrev pub ForallAssignmentKeepsWellFormed : Type 0
+ForallAssignmentKeepsWellFormed =
+    (w : World) (line : ℕ) (left right : Expr) (places : List ℕ) (cs : List Combination) → AreWellFormed w → IfOk (over w right cs) (AllPass (is_value (is_logical w.vars (target_name left)))) →
+    IfOk (forall_assign w line left right places cs) AreWellFormed
+
+-- ---- the values of a term have its type
+
+-- relations and operators on LOGICAL give LOGICAL values, and the others INTEGER ones
+abbrev pub is_test : BinOp → Bool
+is_test bin.Add = false
+is_test bin.Sub = false
+is_test bin.Mul = false
+is_test bin.Div = false
+is_test bin.Pow = false
+is_test _ = true
+
+abbrev mutual
+  -- A term of type LOGICAL, or of INTEGER. An operation's result has its type whatever its operands are, but for those that hand a value on.
+  pub HasType : Bool → Term → Type 0
+  HasType b (term.Scalar v) = is_value b v ≡ true
+  HasType b (term.Listed xs) = AllPass (is_value b) xs
+  HasType b (term.Section' a _ ps) = AllPass (is_value b) a.values
+  HasType b (unary_term un.Minus t) = b ≡ false
+  HasType b (unary_term un.Plus t) = HasType b t
+  HasType b (unary_term un.Not t) = b ≡ true
+  HasType b (binary_term op t u) = b ≡ is_test op
+  HasType b (term.Call' word.Min _ ts) = (b ≡ false) × HaveType b ts
+  HasType b (term.Call' word.Max _ ts) = (b ≡ false) × HaveType b ts
+  HasType b (term.Call' word.Merge _ ts) = FirstTwoHaveType b ts
+  HasType b (term.Call' _ _ ts) = b ≡ false
+
+  pub HaveType : {m : _} → Bool → Terms m → Type 0
+  HaveType b end_terms = Unit {0}
+  HaveType b (more_terms t ts) = HasType b t × HaveType b ts
+
+  pub FirstTwoHaveType : {m : _} → Bool → Terms m → Type 0
+  FirstTwoHaveType b (more_terms t (more_terms u ts)) = HasType b t × HasType b u
+  FirstTwoHaveType b _ = ⊥
+
+abbrev pub TypedTermsGiveValues : Type 0
+TypedTermsGiveValues = (b : Bool) (t : Term) → HasType b t → GivesValues b t

@@ -1,6 +1,6 @@
 //! Laws of the meaning, beside its equations.
 
-ghost use Rattle.array_meaning.specs.Laws.{AllPlacesOnce, AssignmentKeepsElements, AssignmentKeepsOthers, AssignmentKeepsShapes, BlocksAreAll, BlocksAreDisjoint, ChosenOnce, ForallAssignmentKeepsOthers, ForallAssignmentKeepsShapes, ForallKeepsShapes, MaskedAssignmentKeepsOthers, MaskedAssignmentKeepsShapes, ValuesCombinationByCombination, ValuesPlaceByPlace, WhereKeepsShapes};
+ghost use Rattle.array_meaning.specs.Laws.{AllPlacesOnce, AssignmentKeepsElements, AssignmentKeepsOthers, AssignmentKeepsShapes, AssignmentKeepsWellFormed, BlocksAreAll, BlocksAreDisjoint, ChosenOnce, ForallAssignmentKeepsOthers, ForallAssignmentKeepsShapes, ForallAssignmentKeepsWellFormed, ForallKeepsShapes, MaskedAssignmentKeepsOthers, MaskedAssignmentKeepsShapes, MaskedAssignmentKeepsWellFormed, TypedTermsGiveValues, ValuesCombinationByCombination, ValuesPlaceByPlace, WhereKeepsShapes};
 
 /// An assignment changes no variable but its target.
 pub fn an_assignment_keeps_other_variables()
@@ -35,4 +35,17 @@ pub fn a_step_keeps_shapes()
     ensures forall { ForallAssignmentKeepsShapes }
     ensures where_construct { WhereKeepsShapes }
     ensures forall_construct { ForallKeepsShapes }
+{}
+
+/// A step keeps the variables well formed, where its right side has values of its left side's type and that is no whole allocatable
+/// outside WHERE.
+pub fn a_step_keeps_variables_well_formed()
+    ensures plain { AssignmentKeepsWellFormed }
+    ensures masked { MaskedAssignmentKeepsWellFormed }
+    ensures forall { ForallAssignmentKeepsWellFormed }
+{}
+
+/// The values of a term of a type are values of that type, so that INTEGER values are in range and LOGICAL ones 0 or 1.
+pub fn terms_have_values_of_their_type()
+    ensures { TypedTermsGiveValues }
 {}
