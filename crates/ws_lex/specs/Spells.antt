@@ -69,7 +69,7 @@ IsOneOf (f ∷ fs) s bytes = ((s ≡ f.1) × (bytes ≡ f.0)) ⊎ IsOneOf fs s b
 abbrev pub all_fixed : List (List ℕ × Shape)
 all_fixed = (dot_operators ++ truth_values) ++ (pairs ++ singles)
 
--- the bytes, where the rest follows, spell a token: `Foreign` is a number with a point, an exponent or a kind, or quoted text
+-- the bytes, where the rest follows, spell a token. Each number spells a `Foreign`, and digits alone spell a `Digits` too.
 abbrev pub Spells : Shape → List ℕ → List ℕ → Type 0
 Spells shape.Word bytes rest = is_name bytes ≡ true
 Spells shape.Digits bytes rest = is_digits bytes ≡ true

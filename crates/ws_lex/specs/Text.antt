@@ -27,11 +27,11 @@ after_ampersand part (b ∷ bs) = if nat_eq b 38 then bs else 32 ∷ part
 abbrev pub continuing : List ℕ → List ℕ
 continuing part = after_ampersand part (drop_blanks part)
 
--- `;` is no separator in a directive: "any other byte"
+-- a `;` ends no directive: outside quotes it breaks the form, as a byte 0 does
 abbrev pub no_separator : ℕ → ℕ
 no_separator b = if nat_eq b 59 then 0 else b
 
--- `&` at the end of a directive makes it Unsupported, as `%` does
+-- an `&` at the end of a directive makes it unsupported, as `%` does, and joins no line to it
 abbrev pub directive_text : List ℕ → List ℕ
 directive_text part = if ends_in_ampersand part then but_last part ++ codes "%" else part
 
@@ -52,7 +52,7 @@ abbrev pub part_after : Option ℕ → List ℕ → List ℕ
 part_after None part = part
 part_after (Some m) part = continuing part
 
--- the tokens of a directive stand alone
+-- a directive is a statement of its own; its `!` stands for the whole `!$omp`
 abbrev pub directive : ℕ → List ℕ → List Cell
 directive n part = on_line n (codes "!") ++ (on_line n (map no_separator (directive_text part)) ++ on_line n (codes ";"))
 

@@ -1,4 +1,4 @@
-//! Laws of the definitions, for whoever reads them. The functions do nothing.
+//! Laws of the definitions, which show a reader that they say what the source form says. The functions do nothing: their clauses are the laws.
 
 ghost use Rattle.std.specs.Prelude.{List, ℕ};
 ghost use Rattle.ws_lex.specs.Rows.{Hold, before_rows, directive_rows, line_rows, statement_rows, token_rows};

@@ -185,7 +185,9 @@ impl From<AllocError> for LexEnd {
     }
 }
 
-/// The tokens of a source. Where a line breaks the source form, the first such line, and the statements that end before it.
+/// The tokens of a source of any bytes, statement by statement in the order in which they end, and `End` with the line after the last (Fortran 2018, 6.3.2).
+/// `Syntax` comes exactly where a line breaks the source form. It has the first such line, counted from 1, and the statements that end on a line before it.
+/// `Memory` is want of memory, or of line numbers, where a source has 2^32 lines or more. A limit on the bytes of a source is its reader's to keep.
 pub fn tokens(alloc: Global, source: &[u8]) -> Result<TokenList, LexEnd>
     ensures ok { IfOk result (λ ts. tokens.IsTokens source.now ts) }
     ensures err { IfErr result (λ e. tokens.IsLexEnd source.now e) }

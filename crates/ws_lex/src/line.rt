@@ -63,7 +63,7 @@ fn quote_after(quote: u8, byte: u8) -> u8
     }
 }
 
-/// What stands before the first `!` outside quotes.
+/// What stands before the first `!` outside quotes (Fortran 2018, 6.3.2.3).
 pub fn before_comment(line: &[u8]) -> &[u8]
     ensures { result.now ≡ lines.before_comment 0 line.now }
 {

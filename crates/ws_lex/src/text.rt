@@ -220,6 +220,7 @@ fn next_number(number: u32) -> Result<u32, AllocError>
     }
 }
 
+/// The text of the lines, and the line after the last. A statement whose last byte is `&` goes on in the next line of code (Fortran 2018, 6.3.2.4).
 pub fn text(alloc: Global, bytes: &[u8]) -> Result<Text, AllocError>
     ensures cells { IfOk result (λ t. t.cells ≡ text.text (lines.lines bytes.now)) }
     ensures end { IfOk result (λ t. t.end ≡ suc (length (lines.lines bytes.now))) }

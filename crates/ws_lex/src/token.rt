@@ -36,7 +36,8 @@ pub enum Sign {
     Becomes,
 }
 
-/// What a token is. `Foreign` is one that makes its statement unsupported: a real literal, quoted text, a literal with a kind, `%`, `=>`, `//`.
+/// What a token is. `Foreign` is one that makes its statement unsupported: a real literal, quoted text, a literal with a kind, `%`, `=>`, `//`, the `&` of a directive that would go on, or a whole line that begins `!$` and a blank (OpenMP 5.2, 3.3).
+/// `Word` is a name or keyword in lower case of at most 63 bytes, and `Digits` a digit string of any length.
 /// `Directive` stands where a directive line begins, in place of its `!$omp`, and `End` after the last statement of a source.
 #[derive(Debug, Drop)]
 pub enum TokenKind {
