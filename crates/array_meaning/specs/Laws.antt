@@ -27,7 +27,7 @@ use Rattle.array_meaning.specs.Stage2.{values, targets, array_of}
 use Rattle.array_meaning.specs.Stage1.{walk}
 use Rattle.array_meaning.specs.Assign.{selection, target_name, may_move, assign, carried_out}
 use Rattle.array_meaning.specs.Where.{Mask, Assignment, run_assignment, run_where}
-use Rattle.array_meaning.specs.Forall.{Combination, over, forall_assign, run_forall}
+use Rattle.array_meaning.specs.Forall.{Combination, over, over_targets, forall_assign, run_forall}
 
 -- ---- an assignment changes nothing outside its targets
 
@@ -60,6 +60,12 @@ abbrev pub AssignmentKeepsElements : Type 0
 AssignmentKeepsElements =
     (w : World) (line : ℕ) (right : Expr) (r : Term) (e : Extents) (places : List ℕ) (t : Term) (a : ArrayValue) (ts : List ℕ) →
     array_of t ≡ Some a → targets t places ≡ Ok ts → IfOk (carried_out w line right r e places (selection t)) (KeepsElements a ts)
+
+-- of an assignment in a FORALL
+abbrev pub ForallAssignmentKeepsElements : Type 0
+ForallAssignmentKeepsElements =
+    (w : World) (line : ℕ) (left right : Expr) (places : List ℕ) (cs : List Combination) (a : ArrayValue) (ts : List ℕ) →
+    state_of w.vars (target_name left) ≡ Array a → over_targets w left cs ≡ Ok ts → IfOk (forall_assign w line left right places cs) (λ v. KeepsElements a ts (state_of v.vars (target_name left)))
 
 -- ---- the values of an expression do not depend on the order of the places
 

@@ -1,6 +1,6 @@
 //! Laws of the meaning, beside its equations.
 
-ghost use Rattle.array_meaning.specs.Laws.{AllPlacesOnce, AssignmentKeepsElements, AssignmentKeepsOthers, AssignmentKeepsShapes, AssignmentKeepsWellFormed, BlocksAreAll, BlocksAreDisjoint, ChosenOnce, ForallAssignmentKeepsOthers, ForallAssignmentKeepsShapes, ForallAssignmentKeepsWellFormed, ForallKeepsShapes, MaskedAssignmentKeepsOthers, MaskedAssignmentKeepsShapes, MaskedAssignmentKeepsWellFormed, TypedTermsGiveValues, ValuesCombinationByCombination, ValuesPlaceByPlace, WhereKeepsShapes};
+ghost use Rattle.array_meaning.specs.Laws.{AllPlacesOnce, AssignmentKeepsElements, AssignmentKeepsOthers, AssignmentKeepsShapes, AssignmentKeepsWellFormed, BlocksAreAll, BlocksAreDisjoint, ChosenOnce, ForallAssignmentKeepsElements, ForallAssignmentKeepsOthers, ForallAssignmentKeepsShapes, ForallAssignmentKeepsWellFormed, ForallKeepsShapes, MaskedAssignmentKeepsOthers, MaskedAssignmentKeepsShapes, MaskedAssignmentKeepsWellFormed, TypedTermsGiveValues, ValuesCombinationByCombination, ValuesPlaceByPlace, WhereKeepsShapes};
 
 /// An assignment changes no variable but its target.
 pub fn an_assignment_keeps_other_variables()
@@ -11,7 +11,8 @@ pub fn an_assignment_keeps_other_variables()
 
 /// An assignment to a selection of an array changes no element but its targets.
 pub fn an_assignment_keeps_other_elements()
-    ensures { AssignmentKeepsElements }
+    ensures selection { AssignmentKeepsElements }
+    ensures forall { ForallAssignmentKeepsElements }
 {}
 
 /// There are values over a list of places where there is one at each place alone, and they are those. So their order is free.
