@@ -1,0 +1,35 @@
+-- The fault that a key stands for.
+use Rattle.std.specs.Prelude.{◌≡◌, ℕ, ◌<◌, List, [], ◌∷◌, length, map, slice_index_or, false}
+use Rattle.ws_base.specs.declared.fault.FaultName.{FaultName}
+use Rattle.ws_base.specs.declared.fault.Fault.{Fault}
+use Rattle.phase_ops.specs.declared.phase.Act.{Act}
+use Rattle.phase_ops.specs.declared.phase.Phase.{Phase}
+use Rattle.phase_ops.specs.declared.phase.Phase.TheVariants.{Set, Loop, Part, Join}
+use Rattle.phase_ops.specs.Phases.{key_of}
+
+abbrev pub no_act : Act
+no_act = record { line = 0; ops = []; whole = false }
+
+-- the lines of the acts; a Join counts as one
+abbrev pub lines : List Act → List ℕ
+lines acts = map (λ (a : Act). a.line) acts
+
+abbrev pub act_lines : Phase → List ℕ
+act_lines (Set l b acts) = lines acts
+act_lines (Loop l b count acts) = lines acts
+act_lines (Part l count act k t f) = act.line ∷ []
+act_lines (Join l count k t f s) = l ∷ []
+
+-- the key is of this act, op, element and fault
+pub record IsKey (p : Phase) (key act op element : ℕ) (name : FaultName) : Type 0 where
+  pub act_in : act < length (act_lines p)
+  pub op_in : op < 1048576
+  pub element_in : element < 1048576
+  pub key_is : key ≡ key_of act op element name
+
+abbrev pub HasKey : Phase → ℕ → Type 0
+HasKey p key = (act op element : ℕ) × (name : FaultName) × IsKey p key act op element name
+
+-- a fault has the line of its act
+abbrev pub fault_at : Phase → ℕ → ℕ → FaultName → Fault
+fault_at p act element name = record { line = slice_index_or (act_lines p) act 0; name = name; element = element }

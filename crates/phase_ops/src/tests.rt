@@ -1,0 +1,35 @@
+//! A key and its fault, by hand.
+
+use crate::*;
+use std::test::Fail;
+use ws_base::{Fault, FaultName};
+
+#[test]
+fn a_division_in_the_second_act(rt: HostRuntime) -> Result<(), Fail> {
+    let alloc = rt.alloc();
+    let first = Act {
+        line: 4,
+        ops: MicroList::new(alloc),
+        whole: false,
+    };
+    let second = Act {
+        line: 6,
+        ops: MicroList::new(alloc),
+        whole: false,
+    };
+    let phase = Phase::Loop {
+        line: 4,
+        label: Label::Stage,
+        count: Source::Fixed(3),
+        acts: ActList::from_vec(vec![in alloc; first, second]?),
+    };
+    // The act 1, its operation 3, the element 2, and 4 for the division by zero.
+    let fault = fault_of(&phase, ((1_048_576 + 3) * 1_048_576 + 2) * 16 + 4);
+    let expected = Fault {
+        line: 6,
+        name: FaultName::DivideByZero,
+        element: 2,
+    };
+    assert_eq!(rt; fault, expected);
+    Ok(())
+}

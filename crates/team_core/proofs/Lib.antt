@@ -1,0 +1,13 @@
+pub mod Lists
+pub mod Laying
+pub mod FrontSteps
+pub mod Fronts
+pub mod Barrier
+pub mod Advance
+pub mod Keeping
+pub mod Ends
+pub mod Runs
+pub mod Teams
+pub mod Machines
+pub mod Choices
+pub mod Sizes

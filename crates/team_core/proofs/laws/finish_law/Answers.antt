@@ -1,0 +1,7 @@
+use Rattle.std.proofs.Common.{refl}
+use Rattle.team_core.specs.declared.member.StepKind.TheVariants.{Finish}
+use Rattle.team_core.proofs.Runs.{steps}
+use Rattle.team_core.proofs.laws.finish_law.Goals as goal
+
+pub returns : goal.returns
+returns g = λ c k k' m x safe sound at h. steps c safe k sound m x at Finish x.state refl k' h
