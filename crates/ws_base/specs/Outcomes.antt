@@ -1,5 +1,5 @@
 -- Outcomes in order: the first fault, or the value.
-use Rattle.std.specs.Prelude.{ℕ, suc, List, [], ◌∷◌, map, Result, Ok, Err, ℤ}
+use Rattle.std.specs.Prelude.{suc, List, [], ◌∷◌, map, Result, Ok, Err, ℤ}
 use Rattle.ws_base.specs.declared.fault.FaultName.{FaultName}
 use Rattle.ws_base.specs.declared.fault.Trouble.{Trouble}
 use Rattle.ws_base.specs.Numbers.{Exact}

@@ -7,7 +7,7 @@ mod name;
 mod op;
 mod refusal;
 
-pub use arith::{add32, div32, pow32};
+pub use arith::{abs32, add32, div32, mod32, modulo32, mul32, neg32, pow32, sub32};
 pub use fault::{Fault, FaultName, Trouble};
 pub use name::Name;
 pub use op::{BinOp, CallWord, UnOp};

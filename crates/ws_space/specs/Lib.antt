@@ -1,2 +1,4 @@
 pub mod Shapes
+pub mod Subscripts
 pub mod Values
+pub mod WellFormed

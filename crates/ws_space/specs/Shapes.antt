@@ -44,28 +44,24 @@ agreed [] = Ok []
 agreed (e ∷ []) = Ok e
 agreed (e ∷ f ∷ more) = if same_extents e f then agreed (f ∷ more) else trouble Shape'
 
+-- z, or 0 where it is below 0
+abbrev pub natural : ℤ → ℕ
+natural (pos n) = n
+natural (negsuc n) = 0
+
 -- `l:u`
 abbrev pub declared_dim : ℤ → ℤ → Dim
-declared_dim l u = record { lower = l; extent = span (u -ℤ l +ℤ pos 1) } where
-  span : ℤ → ℕ
-  span (pos n) = n
-  span (negsuc n) = 0
+declared_dim l u = record { lower = l; extent = natural (u -ℤ l +ℤ pos 1) }
 
 -- how many subscripts `l:u:s` selects; its stride is not 0
 abbrev pub count : Triplet → ℕ
-count t = at_least (int_div (t.u -ℤ t.l +ℤ t.s) t.s) where
-  at_least : ℤ → ℕ
-  at_least (pos n) = n
-  at_least (negsuc n) = 0
+count t = natural (int_div (t.u -ℤ t.l +ℤ t.s) t.s)
 
 abbrev pub within : Dim → ℤ → Bool
 within d i = int_le d.lower i && int_le i (upper d)
 
 abbrev pub distance : ℤ → ℤ → ℕ
-distance from to = size_of (to -ℤ from) where
-  size_of : ℤ → ℕ
-  size_of (pos n) = n
-  size_of (negsuc n) = 0
+distance from to = natural (to -ℤ from)
 
 -- the place of an element in array element order, from 0
 abbrev pub place : List Dim → List ℤ → Result ℕ FaultName

@@ -1,5 +1,5 @@
 -- Values in array element order, targets, and the variables of a state.
-use Rattle.std.specs.Prelude.{ℕ, suc, ◌==◌, Bool, true, false, ◌||◌, if◌then◌else◌, List, [], ◌∷◌, slice_index_or, Option, Some, None, Ok, ℤ, pos, bytes_eq}
+use Rattle.std.specs.Prelude.{ℕ, suc, ◌==◌, Bool, false, ◌||◌, if◌then◌else◌, List, [], ◌∷◌, slice_index_or, Option, Some, None, Ok, ℤ, pos, bytes_eq}
 use Rattle.ws_base.specs.Numbers.{Exact}
 use Rattle.ws_base.specs.Outcomes.{◌>>=◌}
 use Rattle.ws_space.specs.declared.shape.Dim.{Dim}

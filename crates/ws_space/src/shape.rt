@@ -1,5 +1,8 @@
 //! Shapes, subscripts and triplets.
 
+/// The most elements that an array may have.
+pub const ELEMENT_LIMIT: u64 = 65_536;
+
 /// One dimension of an array: its lower bound and its extent. A scalar's and each unused dimension has lower bound 1 and extent 1.
 #[derive(Clone, Copy, Debug, PartialEq, Eq)]
 pub struct Dim {

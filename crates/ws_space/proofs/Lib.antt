@@ -1,0 +1,4 @@
+pub mod Distances
+pub mod Places
+pub mod Counts
+pub mod Whole
