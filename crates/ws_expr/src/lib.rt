@@ -6,6 +6,8 @@ mod calls;
 mod operators;
 mod parse;
 mod reading;
+#[cfg(test)]
+mod tests;
 
 pub use calls::Callee;
 pub use parse::{Failed, after, expression, subs, whole};

@@ -1,3 +1,4 @@
 pub mod Trees
 pub mod Opened
 pub mod Words
+pub mod Grammatical
