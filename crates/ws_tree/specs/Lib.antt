@@ -1,2 +1,4 @@
-pub mod Trees
+pub mod Words
+pub mod Grammatical
 pub mod Opened
+pub mod Trees

@@ -1,0 +1,5 @@
+pub mod Chains
+pub mod Powers
+pub mod Lists
+pub mod Heads
+pub mod Triplets
