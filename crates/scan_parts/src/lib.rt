@@ -4,8 +4,12 @@
 //! The definitions stand in `phase_ops`, `specs/Partials.antt`: the partial of some values, how two are merged, and the total.
 #![tactic(auto)]
 
+mod laws;
 mod merge;
 mod part;
+#[cfg(test)]
+mod tests;
 
+pub use laws::merging_law;
 pub use merge::Merge;
 pub use part::{AllPart, AnyPart, CountPart, MaxvalPart, MinvalPart, ProductPart, SumPart};
