@@ -1,0 +1,5 @@
+pub mod Leads
+pub mod Addresses
+pub mod OpSteps
+pub mod ActSteps
+pub mod Exponents

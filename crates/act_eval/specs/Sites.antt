@@ -1,0 +1,60 @@
+-- What is left to do at a site, and what may be read there.
+use Rattle.std.specs.Prelude.{◌≡◌, ◌⊎◌, ℕ, zero, suc, ◌+◌, ◌*◌, ◌<◌, List, [], ◌∷◌, ◌++◌, length, ℤ, pos, ◌<ℤ◌}
+use Rattle.phase_ops.specs.declared.effect.Effect.{Effect}
+use Rattle.phase_ops.specs.declared.effect.Effect.TheVariants.{Store, Least, Fault}
+use Rattle.phase_ops.specs.declared.effect.Turn.{Turn}
+use Rattle.phase_ops.specs.declared.effect.Turn.TheVariants.{Next, Shut, Fails, Does}
+use Rattle.phase_ops.specs.declared.phase.Micro.{Micro}
+use Rattle.phase_ops.specs.declared.phase.Micro.TheVariants as micro
+use Rattle.phase_ops.specs.declared.phase.Address.{Address}
+use Rattle.phase_ops.specs.Phases.{Cells, lay, address, Event, makes, loads, divides, Spot, ops_events, acts_events, each_from}
+use Rattle.phase_ops.specs.declared.phase.Act.{Act}
+use Rattle.phase_ops.specs.Free.{In, stored, lessened}
+use Rattle.act_eval.specs.declared.site.End.{End}
+use Rattle.act_eval.specs.declared.site.End.TheVariants.{Ran, Closed, Failed}
+
+-- the effects that are left to do, the cells as the unit sees them, and the cells that it may read
+pub record View : Type 0 where
+  pub left : List Effect
+  pub cells : Cells
+  pub may : List ℕ
+
+abbrev pub view : List Effect → Cells → List ℕ → View
+view left cells may = record { left = left; cells = cells; may = may }
+
+-- a number that names a cell
+abbrev pub Small : ℕ → Type 0
+Small c = c < 9223372036854775808
+
+-- these events and then the effects `more` are to come, and they may
+pub record Comes (v : View) (es : List Event) (more : List Effect) : Type 0 where
+  pub left_is : v.left ≡ makes es ++ more
+  pub may_load : (c : ℕ) → In c (loads es) → In c v.may × Small c
+  pub small : (c : ℕ) → In c (stored (makes es)) ⊎ In c (lessened (makes es)) → Small c
+  pub positive : (z : ℤ) → In z (divides es) → pos 0 <ℤ z
+
+abbrev pub Rest : Type 0
+Rest = Cells → List ℤ → List Event
+
+abbrev pub spot_of : ℕ → ℕ → ℕ → Spot
+spot_of act element iteration = record { act = act; element = element; iteration = iteration }
+
+-- the cell that an op's address names
+abbrev pub named_cells : Cells → List ℤ → Micro → List ℕ
+named_cells m regs (micro.Load a) = address m regs a ∷ []
+named_cells m regs (micro.Store a r) = address m regs a ∷ []
+named_cells m regs (micro.Least a r) = address m regs a ∷ []
+named_cells m regs _ = []
+
+-- after the ops of an act
+abbrev pub Ended : View → List ℤ → Rest → List Effect → End → Type 0
+Ended v regs rest more Ran = Comes v (rest v.cells regs) more
+Ended v regs rest more Closed = Comes v (rest v.cells []) more
+Ended v regs rest more Failed = v.left ≡ more
+
+-- from one view to a later one: these effects were done, and laid over the cells
+pub record Led (v v' : View) : Type 0 where
+  pub did : List Effect
+  pub left_was : v.left ≡ did ++ v'.left
+  pub cells_are : v'.cells ≡ lay v.cells did
+  pub may_is : v'.may ≡ v.may

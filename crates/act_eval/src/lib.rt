@@ -1,0 +1,13 @@
+//! The ops of an iteration, run wherever its loads and stores go.
+//!
+//! `Site` says where. Read `specs/Sites.antt` first: what is left to do at a site, and what may be read there.
+#![tactic(auto)]
+
+mod acts;
+mod number;
+mod ops;
+mod site;
+
+pub use acts::run_acts;
+pub use number::{binary_value, unary_value};
+pub use site::{End, Site};

@@ -1,0 +1,3 @@
+mod Least
+mod Products
+pub mod Merging
