@@ -3,6 +3,10 @@
 
 mod item;
 mod printing;
+mod reading;
+#[cfg(test)]
+mod tests;
 
 pub use item::Item;
 pub use printing::report;
+pub use reading::{next_item, next_line};

@@ -1,0 +1,6 @@
+use Rattle.std.proofs.Common.{◌≡◌, drop}
+use Rattle.list_io.specs.Items as items
+use Rattle.list_io.proofs.reading.after_spaces.Given as goal
+
+abbrev pub invariant-loop-i : goal.invariant-loop-i
+invariant-loop-i l = items.after_spaces (drop l.i l.text) ≡ items.after_spaces l.text
