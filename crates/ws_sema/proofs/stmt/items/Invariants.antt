@@ -1,0 +1,8 @@
+use Rattle.std.proofs.Common.{◌≡◌, drop}
+use Rattle.std.specs.List.{flat_map}
+use Rattle.ws_sema.specs.Kinds.{least_from}
+use Rattle.ws_sema.specs.Statements as statements
+use Rattle.ws_sema.proofs.stmt.items.Given as goal
+
+abbrev pub invariant-each : goal.invariant-each
+invariant-each l = least_from l.initial.found (flat_map (statements.item_faults l.table l.line) l.es) ≡ least_from l.found (flat_map (statements.item_faults l.table l.line) (drop l.e-index l.es))
