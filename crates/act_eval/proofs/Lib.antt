@@ -3,3 +3,4 @@ pub mod Addresses
 pub mod OpSteps
 pub mod ActSteps
 pub mod Exponents
+pub mod ValueSteps

@@ -13,12 +13,12 @@ use Rattle.phase_ops.proofs.Members.{in_left, in_right}
 use Rattle.phase_ops.proofs.Frame.{loads_plain}
 use Rattle.act_eval.specs.Sites.{View, view, Small, Comes, Rest, named_cells}
 
-makes_plain : (cs : List ℕ) (ds : List ℤ) (es : List Event) → makes (plain cs ds es) ≡ makes es
+pub makes_plain : (cs : List ℕ) (ds : List ℤ) (es : List Event) → makes (plain cs ds es) ≡ makes es
 makes_plain [] [] es = refl
 makes_plain [] (d ∷ ds) es = makes_plain [] ds es
 makes_plain (c ∷ cs) ds es = makes_plain cs ds es
 
-divides_plain : (cs : List ℕ) (ds : List ℤ) (es : List Event) → divides (plain cs ds es) ≡ ds ++ divides es
+pub divides_plain : (cs : List ℕ) (ds : List ℤ) (es : List Event) → divides (plain cs ds es) ≡ ds ++ divides es
 divides_plain [] [] es = refl
 divides_plain [] (d ∷ ds) es = ap (λ (l : List ℤ). d ∷ l) (divides_plain [] ds es)
 divides_plain (c ∷ cs) ds es = divides_plain cs ds es

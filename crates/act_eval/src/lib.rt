@@ -7,7 +7,9 @@ mod acts;
 mod number;
 mod ops;
 mod site;
+mod values;
 
 pub use acts::run_acts;
 pub use number::{binary_value, unary_value};
-pub use site::{End, Site};
+pub use site::{End, Site, Worth};
+pub use values::value_at;
