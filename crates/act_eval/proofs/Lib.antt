@@ -4,3 +4,4 @@ pub mod OpSteps
 pub mod ActSteps
 pub mod Exponents
 pub mod ValueSteps
+pub mod PartSteps

@@ -7,9 +7,12 @@ use Rattle.phase_ops.specs.declared.effect.Turn.TheVariants.{Next, Shut, Fails, 
 use Rattle.phase_ops.specs.declared.phase.Micro.{Micro}
 use Rattle.phase_ops.specs.declared.phase.Micro.TheVariants as micro
 use Rattle.phase_ops.specs.declared.phase.Address.{Address}
-use Rattle.phase_ops.specs.Phases.{Cells, lay, address, Event, makes, loads, divides, gives, Spot, ops_events, calm, last_event}
+use Rattle.phase_ops.specs.Phases.{Cells, lay, address, Event, makes, loads, divides, gives, least_key, Spot, ops_events, calm, last_event}
 use Rattle.phase_ops.specs.declared.phase.Act.{Act}
 use Rattle.phase_ops.specs.Free.{In, stored, lessened}
+use Rattle.ws_base.specs.Numbers.{default_half}
+use Rattle.ws_base.specs.declared.op.CallWord.{CallWord}
+use Rattle.phase_ops.specs.Partials.{part_of, merged}
 use Rattle.act_eval.specs.declared.site.Worth.{Worth}
 use Rattle.act_eval.specs.declared.site.Worth.TheVariants as worth
 use Rattle.act_eval.specs.declared.site.End.{End}
@@ -75,3 +78,12 @@ abbrev pub IsWorth : Worth → List Event → Type 0
 IsWorth (worth.Value z) es = (makes es ≡ []) × (gives es ≡ z ∷ [])
 IsWorth worth.Nothing es = (makes es ≡ []) × (gives es ≡ [])
 IsWorth (worth.Fault k) es = (makes es ≡ Fault k ∷ []) × (gives es ≡ [])
+
+-- the partial of the values that these events give
+abbrev pub part_given : CallWord → List Event → ℤ
+part_given k es = merged default_half k (map (part_of default_half k) (gives es))
+
+-- the least key that was found in these events, and the partial of their values
+pub record IsFound (k : CallWord) (least : ℕ) (part : ℤ) (es : List Event) : Type 0 where
+  pub least_is : least ≡ least_key (makes es)
+  pub part_is : part ≡ part_given k es

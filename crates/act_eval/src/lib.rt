@@ -6,10 +6,12 @@
 mod acts;
 mod number;
 mod ops;
+mod parts;
 mod site;
 mod values;
 
 pub use acts::run_acts;
 pub use number::{binary_value, unary_value};
+pub use parts::run_part;
 pub use site::{End, Site, Worth};
 pub use values::value_at;
