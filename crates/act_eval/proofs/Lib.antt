@@ -5,3 +5,4 @@ pub mod ActSteps
 pub mod Exponents
 pub mod ValueSteps
 pub mod PartSteps
+pub mod JoinSteps

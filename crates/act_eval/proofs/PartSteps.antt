@@ -1,10 +1,9 @@
 -- What the iterations of a Part have given, one more at a time.
-use Rattle.std.proofs.Common.{◌≡◌, ℕ, suc, ◌+◌, ◌-◌, ◌<◌, ◌≤◌, min, List, [], ◌∷◌, ◌++◌, map, sym, refl, ap, ◌∙◌, subst, arith, ℤ, FitsSigned}
+use Rattle.std.proofs.Common.{◌≡◌, ℕ, suc, ◌+◌, ◌-◌, ◌<◌, min, List, [], ◌∷◌, ◌++◌, map, sym, refl, ap, ◌∙◌, subst, arith, ℤ, FitsSigned}
 use Rattle.std.specs.Int.{w64}
 use Rattle.ws_base.specs.Numbers.{default_half}
 use Rattle.ws_base.specs.declared.op.CallWord.{CallWord}
 use Rattle.phase_ops.specs.declared.effect.Effect.{Effect}
-use Rattle.phase_ops.specs.declared.effect.Effect.TheVariants.{Fault}
 use Rattle.phase_ops.specs.Partials.{part_of, merge, merged}
 use Rattle.phase_ops.specs.Phases.{Event, Loads, Divides, Makes, Gives, makes, gives, least_key, each_from}
 use Rattle.act_eval.specs.declared.site.Worth.TheVariants as worth

@@ -1,16 +1,14 @@
 -- One op of an iteration of a Part.
 use Rattle.std.proofs.Common.{◌≡◌, inl, inr, ℕ, zero, suc, ◌+◌, ◌-◌, ◌*◌, ◌<◌, ◌≤◌, List, [], ◌∷◌, ◌++◌, map, length, drop, take, sym, refl, ap, ◌∙◌, subst, arith, slice_index_or, drop-cons, ℤ, pos, ◌<ℤ◌}
 use Rattle.std.specs.Prelude.{if◌then◌else◌, Bool, true, false, Ok, Err}
-use Rattle.ws_base.specs.Numbers.{Exact, is_true, default_half}
+use Rattle.ws_base.specs.Numbers.{Exact}
 use Rattle.ws_base.specs.declared.fault.FaultName.{FaultName}
-use Rattle.phase_ops.specs.Scalars.{one_value, scalar_value}
 use Rattle.phase_ops.specs.declared.effect.Effect.{Effect}
-use Rattle.phase_ops.specs.declared.effect.Effect.TheVariants.{Fault}
 use Rattle.phase_ops.specs.declared.effect.Turn.{Turn}
 use Rattle.phase_ops.specs.declared.effect.Turn.TheVariants.{Next, Shut, Fails, Does}
 use Rattle.phase_ops.specs.declared.phase.Micro.{Micro}
 use Rattle.phase_ops.specs.declared.phase.Micro.TheVariants as micro
-use Rattle.phase_ops.specs.Phases.{Cells, address, address_cells, turn_of, looks, divisors, turn, fault_number, Spot, Event, Loads, Divides, Gives, plain, went, ops_events, loads, makes, divides, gives, calm, last_event}
+use Rattle.phase_ops.specs.Phases.{Cells, address, address_cells, turn_of, looks, divisors, turn, Spot, Event, Gives, plain, went, ops_events, loads, makes, divides, gives, calm, last_event}
 use Rattle.phase_ops.specs.Free.{In}
 use Rattle.phase_ops.proofs.Members.{in_left, in_right}
 use Rattle.phase_ops.proofs.Frame.{loads_plain}

@@ -1,14 +1,10 @@
 -- What is left to do at a site, and what may be read there.
-use Rattle.std.specs.Prelude.{◌≡◌, ◌⊎◌, ℕ, zero, suc, ◌+◌, ◌*◌, ◌<◌, List, [], ◌∷◌, ◌++◌, map, length, ℤ, pos, ◌<ℤ◌}
+use Rattle.std.specs.Prelude.{◌≡◌, ◌⊎◌, ℕ, ◌<◌, List, [], ◌∷◌, ◌++◌, map, ℤ, pos, ◌<ℤ◌}
 use Rattle.phase_ops.specs.declared.effect.Effect.{Effect}
-use Rattle.phase_ops.specs.declared.effect.Effect.TheVariants.{Store, Least, Fault}
-use Rattle.phase_ops.specs.declared.effect.Turn.{Turn}
-use Rattle.phase_ops.specs.declared.effect.Turn.TheVariants.{Next, Shut, Fails, Does}
+use Rattle.phase_ops.specs.declared.effect.Effect.TheVariants.{Fault}
 use Rattle.phase_ops.specs.declared.phase.Micro.{Micro}
 use Rattle.phase_ops.specs.declared.phase.Micro.TheVariants as micro
-use Rattle.phase_ops.specs.declared.phase.Address.{Address}
 use Rattle.phase_ops.specs.Phases.{Cells, lay, address, Event, makes, loads, divides, gives, least_key, Spot, ops_events, calm, last_event}
-use Rattle.phase_ops.specs.declared.phase.Act.{Act}
 use Rattle.phase_ops.specs.Free.{In, stored, lessened}
 use Rattle.ws_base.specs.Numbers.{default_half}
 use Rattle.ws_base.specs.declared.op.CallWord.{CallWord}

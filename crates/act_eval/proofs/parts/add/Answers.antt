@@ -1,4 +1,4 @@
-use Rattle.std.proofs.Common.{◌≡◌, subst, ap, ◌∙◌, ℤ}
+use Rattle.std.proofs.Common.{subst, ap, ◌∙◌, ℤ}
 use Rattle.std.specs.Int.{w64}
 use Rattle.std.proofs.lemmas.Int.{to_z-of_z}
 use Rattle.ws_base.specs.Numbers.{default_half}

@@ -1,4 +1,4 @@
-use Rattle.std.proofs.Common.{◌≡◌, ℕ, ◌+◌, ◌-◌, ◌≤◌, List, subst, sym, ap, ◌∙◌, arith}
+use Rattle.std.proofs.Common.{ℕ, ◌+◌, ◌-◌, List, subst, arith}
 use Rattle.phase_ops.specs.Phases.{Cells, Event, each_from, value_events}
 use Rattle.act_eval.specs.declared.site.Worth.{Worth}
 use Rattle.act_eval.specs.Sites.{View, IsWorth}

@@ -1,4 +1,4 @@
-use Rattle.std.proofs.Common.{◌≡◌, ℕ, ◌+◌, ◌-◌, List, length, ℤ}
+use Rattle.std.proofs.Common.{◌≡◌, ◌+◌, ◌-◌, length}
 use Rattle.phase_ops.specs.Phases.{each_from, value_events}
 use Rattle.act_eval.specs.Sites.{IsFound}
 use Rattle.act_eval.proofs.parts.found_in.Given as goal

@@ -1,4 +1,4 @@
-use Rattle.std.proofs.Common.{◌≡◌, ℕ, sym, ◌∙◌, ap, subst, cond, Bool, List, ℤ, pos}
+use Rattle.std.proofs.Common.{◌≡◌, sym, ◌∙◌, ap, subst, cond, Bool, pos}
 use Rattle.phase_ops.specs.declared.phase.Micro.{Micro}
 use Rattle.phase_ops.specs.declared.phase.Micro.TheVariants as micro
 use Rattle.phase_ops.specs.Phases.{Cells, looks, calm}

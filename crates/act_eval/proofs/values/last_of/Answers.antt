@@ -1,4 +1,4 @@
-use Rattle.std.proofs.Common.{◌≡◌, ℕ, ◌-◌, sym, ◌∙◌, ap, of_z, to_z, w64, arith, ℤ, pos, slice_index_or}
+use Rattle.std.proofs.Common.{◌∙◌, w64}
 use Rattle.std.proofs.lemmas.Int.{to_z-of_z}
 use Rattle.act_eval.proofs.ValueSteps.{last_worth}
 use Rattle.act_eval.proofs.values.last_of.Goals as goal

@@ -1,14 +1,13 @@
-use Rattle.std.proofs.Common.{◌≡◌, ℕ, ◌+◌, ◌≤◌, ◌<◌, List, [], ◌∷◌, map, length, length-set, drop, take, set, sym, refl, ap, ◌∙◌, subst, arith, of_z, to_z, ℤ, pos}
+use Rattle.std.proofs.Common.{◌≡◌, ◌+◌, ◌<◌, List, ◌∷◌, map, length, length-set, drop, take, set, sym, ap, ◌∙◌, subst, arith, of_z, ℤ}
 use Rattle.std.specs.Int.{w64, cast_signed}
 use Rattle.std.proofs.lemmas.Int.{to_z-of_z}
 use Rattle.std.proofs.lemmas.List.{take_more_set}
 use Rattle.phase_ops.specs.declared.phase.Micro.{Micro}
-use Rattle.phase_ops.specs.declared.effect.Turn.{Turn}
-use Rattle.phase_ops.specs.declared.effect.Turn.TheVariants.{Next, Does}
-use Rattle.phase_ops.specs.Phases.{Cells, Event, Spot, looks, divisors, turn, ops_events, calm, last_event}
+use Rattle.phase_ops.specs.declared.effect.Turn.TheVariants.{Next}
+use Rattle.phase_ops.specs.Phases.{Event, Spot, looks, turn, ops_events, calm, last_event}
 use Rattle.phase_ops.specs.Free.{In}
 use Rattle.act_eval.specs.Sites.{View, Small, Rest, spot_of, calm_events}
-use Rattle.act_eval.proofs.ValueSteps.{Left, left_all, opened, may_looks, all_positive, follow, never_does}
+use Rattle.act_eval.proofs.ValueSteps.{Left, opened, may_looks, follow, never_does}
 use Rattle.act_eval.proofs.values.value_of.Goals.{in-Next, in-Does}
 use Rattle.act_eval.proofs.values.value_of.Goals as goal
 

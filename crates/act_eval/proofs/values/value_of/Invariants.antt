@@ -1,4 +1,4 @@
-use Rattle.std.proofs.Common.{◌≡◌, ℕ, ◌≤◌, List, [], map, length, drop, take, ℤ}
+use Rattle.std.proofs.Common.{◌≡◌, map, length, drop, take}
 use Rattle.phase_ops.specs.Phases.{ops_events, calm, last_event}
 use Rattle.act_eval.specs.Sites.{spot_of, calm_events}
 use Rattle.act_eval.proofs.ValueSteps.{Left}
