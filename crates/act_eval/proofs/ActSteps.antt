@@ -1,9 +1,9 @@
 -- One act of a strand.
-use Rattle.std.proofs.Common.{◌≡◌, ◌≢◌, ℕ, zero, suc, ◌+◌, ◌<◌, cond, Bool, List, [], ◌∷◌, ◌++◌, length, drop, sym, refl, ap, ◌∙◌, subst, arith, slice_index_or, drop-cons, ℤ}
+use Rattle.std.proofs.Common.{◌≡◌, ℕ, suc, ◌+◌, ◌<◌, cond, List, [], ◌∷◌, length, drop, sym, refl, ◌∙◌, subst, arith, slice_index_or, drop-cons, ℤ}
 use Rattle.phase_ops.specs.declared.effect.Effect.{Effect}
 use Rattle.phase_ops.specs.declared.phase.Micro.{Micro}
 use Rattle.phase_ops.specs.declared.phase.Act.{Act}
-use Rattle.phase_ops.specs.Phases.{Cells, Event, Spot, ops_events, acts_events}
+use Rattle.phase_ops.specs.Phases.{ops_events, acts_events}
 use Rattle.act_eval.specs.declared.site.End.{End}
 use Rattle.act_eval.specs.declared.site.End.TheVariants.{Ran, Closed, Failed}
 use Rattle.act_eval.specs.Sites.{View, Comes, Rest, Ended, spot_of}

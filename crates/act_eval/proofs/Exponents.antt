@@ -1,8 +1,8 @@
 -- A power whose exponent is past the range is out of range, or depends on the parity of its exponent alone.
-use Rattle.std.proofs.Common.{◌≡◌, ℕ, zero, suc, ◌+◌, ◌*◌, ◌%◌, ◌^◌, ◌<◌, ◌≤◌, ◌==◌, Bool, true, false, cond, ℤ, pos, negsuc, neg_ℤ, Err, refl, sym, ◌∙◌, arith}
+use Rattle.std.proofs.Common.{◌≡◌, ℕ, zero, suc, ◌*◌, ◌%◌, ◌^◌, ◌<◌, ◌≤◌, ◌==◌, Bool, true, false, cond, ℤ, pos, negsuc, neg_ℤ, Err, refl, sym, ◌∙◌, arith}
 use Rattle.std.specs.Int.{int_pow}
 use Rattle.std.proofs.lemmas.Bool.{le-ltb}
-use Rattle.std.proofs.Math.Nat.{pow-suc, pow-zero, mul-le-mul_right}
+use Rattle.std.proofs.Math.Nat.{pow-suc, pow-zero}
 use Rattle.ws_base.specs.Numbers.{exact, default_half}
 use Rattle.ws_base.specs.declared.fault.FaultName.TheVariants.{Overflow}
 use Rattle.ws_base.proofs.Powers.{one_pow, zero_pow}

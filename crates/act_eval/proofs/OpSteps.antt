@@ -1,24 +1,24 @@
 -- One op of an act.
-use Rattle.std.proofs.Common.{◌≡◌, ◌⊎◌, inl, inr, ℕ, zero, suc, ◌+◌, ◌*◌, ◌<◌, ◌≤◌, List, [], ◌∷◌, ◌++◌, map, length, drop, sym, refl, ap, ◌∙◌, subst, arith, slice_index_or, drop-cons, ℤ, pos, ◌<ℤ◌}
+use Rattle.std.proofs.Common.{◌≡◌, ◌⊎◌, inl, inr, ℕ, suc, ◌+◌, ◌*◌, ◌<◌, List, [], ◌∷◌, ◌++◌, length, drop, sym, refl, ap, ◌∙◌, subst, arith, slice_index_or, drop-cons, ℤ, pos, ◌<ℤ◌}
 use Rattle.phase_ops.specs.declared.effect.Effect.{Effect}
 use Rattle.phase_ops.specs.declared.effect.Effect.TheVariants.{Store, Least, Fault}
 use Rattle.phase_ops.specs.declared.effect.Turn.{Turn}
-use Rattle.phase_ops.specs.declared.effect.Turn.TheVariants.{Next, Shut, Fails, Does}
+use Rattle.phase_ops.specs.declared.effect.Turn.TheVariants.{Fails, Does}
 use Rattle.ws_base.specs.declared.fault.FaultName.{FaultName}
 use Rattle.phase_ops.specs.declared.phase.Micro.{Micro}
 use Rattle.phase_ops.specs.declared.phase.Micro.TheVariants as micro
-use Rattle.phase_ops.specs.Phases.{Cells, address, address_cells, looks, divisors, turn, over, fault_number, Spot, Event, Loads, Divides, Makes, Gives, plain, went, ops_events, loads, makes, divides}
+use Rattle.phase_ops.specs.Phases.{Cells, address, address_cells, looks, divisors, turn, over, fault_number, Spot, Event, plain, went, ops_events, loads, makes, divides}
 use Rattle.phase_ops.specs.Free.{In, stored, lessened}
 use Rattle.phase_ops.proofs.Members.{in_left, in_right}
 use Rattle.phase_ops.proofs.Frame.{loads_plain}
-use Rattle.act_eval.specs.Sites.{View, view, Small, Comes, Rest, named_cells}
+use Rattle.act_eval.specs.Sites.{View, Small, Comes, Rest, named_cells}
 
-makes_plain : (cs : List ℕ) (ds : List ℤ) (es : List Event) → makes (plain cs ds es) ≡ makes es
+pub makes_plain : (cs : List ℕ) (ds : List ℤ) (es : List Event) → makes (plain cs ds es) ≡ makes es
 makes_plain [] [] es = refl
 makes_plain [] (d ∷ ds) es = makes_plain [] ds es
 makes_plain (c ∷ cs) ds es = makes_plain cs ds es
 
-divides_plain : (cs : List ℕ) (ds : List ℤ) (es : List Event) → divides (plain cs ds es) ≡ ds ++ divides es
+pub divides_plain : (cs : List ℕ) (ds : List ℤ) (es : List Event) → divides (plain cs ds es) ≡ ds ++ divides es
 divides_plain [] [] es = refl
 divides_plain [] (d ∷ ds) es = ap (λ (l : List ℤ). d ∷ l) (divides_plain [] ds es)
 divides_plain (c ∷ cs) ds es = divides_plain cs ds es

@@ -1,15 +1,16 @@
 -- What is left to do at a site, and what may be read there.
-use Rattle.std.specs.Prelude.{◌≡◌, ◌⊎◌, ℕ, zero, suc, ◌+◌, ◌*◌, ◌<◌, List, [], ◌∷◌, ◌++◌, length, ℤ, pos, ◌<ℤ◌}
+use Rattle.std.specs.Prelude.{◌≡◌, ◌⊎◌, ℕ, ◌<◌, List, [], ◌∷◌, ◌++◌, map, ℤ, pos, ◌<ℤ◌}
 use Rattle.phase_ops.specs.declared.effect.Effect.{Effect}
-use Rattle.phase_ops.specs.declared.effect.Effect.TheVariants.{Store, Least, Fault}
-use Rattle.phase_ops.specs.declared.effect.Turn.{Turn}
-use Rattle.phase_ops.specs.declared.effect.Turn.TheVariants.{Next, Shut, Fails, Does}
+use Rattle.phase_ops.specs.declared.effect.Effect.TheVariants.{Fault}
 use Rattle.phase_ops.specs.declared.phase.Micro.{Micro}
 use Rattle.phase_ops.specs.declared.phase.Micro.TheVariants as micro
-use Rattle.phase_ops.specs.declared.phase.Address.{Address}
-use Rattle.phase_ops.specs.Phases.{Cells, lay, address, Event, makes, loads, divides, Spot, ops_events, acts_events, each_from}
-use Rattle.phase_ops.specs.declared.phase.Act.{Act}
+use Rattle.phase_ops.specs.Phases.{Cells, lay, address, Event, makes, loads, divides, gives, least_key, Spot, ops_events, calm, last_event}
 use Rattle.phase_ops.specs.Free.{In, stored, lessened}
+use Rattle.ws_base.specs.Numbers.{default_half}
+use Rattle.ws_base.specs.declared.op.CallWord.{CallWord}
+use Rattle.phase_ops.specs.Partials.{part_of, merged}
+use Rattle.act_eval.specs.declared.site.Worth.{Worth}
+use Rattle.act_eval.specs.declared.site.Worth.TheVariants as worth
 use Rattle.act_eval.specs.declared.site.End.{End}
 use Rattle.act_eval.specs.declared.site.End.TheVariants.{Ran, Closed, Failed}
 
@@ -58,3 +59,27 @@ pub record Led (v v' : View) : Type 0 where
   pub left_was : v.left ≡ did ++ v'.left
   pub cells_are : v'.cells ≡ lay v.cells did
   pub may_is : v'.may ≡ v.may
+
+-- what these events load may be loaded, and they divide by positive numbers
+pub record MayLook (may : List ℕ) (es : List Event) : Type 0 where
+  pub may_load : (c : ℕ) → In c (loads es) → In c may × Small c
+  pub positive : (z : ℤ) → In z (divides es) → pos 0 <ℤ z
+
+-- what these ops go through at an iteration of a Part
+abbrev pub calm_events : Spot → List Micro → Cells → List Event
+calm_events s ops m = ops_events s (map calm ops) m [] (λ m' regs. last_event regs)
+
+-- the iteration gives this: its value, nothing behind a gate, or its fault
+abbrev pub IsWorth : Worth → List Event → Type 0
+IsWorth (worth.Value z) es = (makes es ≡ []) × (gives es ≡ z ∷ [])
+IsWorth worth.Nothing es = (makes es ≡ []) × (gives es ≡ [])
+IsWorth (worth.Fault k) es = (makes es ≡ Fault k ∷ []) × (gives es ≡ [])
+
+-- the partial of the values that these events give
+abbrev pub part_given : CallWord → List Event → ℤ
+part_given k es = merged default_half k (map (part_of default_half k) (gives es))
+
+-- the least key that was found in these events, and the partial of their values
+pub record IsFound (k : CallWord) (least : ℕ) (part : ℤ) (es : List Event) : Type 0 where
+  pub least_is : least ≡ least_key (makes es)
+  pub part_is : part ≡ part_given k es

@@ -55,7 +55,7 @@ fn is_failed(end: End) -> bool
     matches!(end, End::Failed)
 }
 
-fn element_of(act: &Act, iteration: u32) -> u32
+pub fn element_of(act: &Act, iteration: u32) -> u32
     requires { iteration < 65536 }
     ensures value { result ≡ cond act.now.whole 0 (suc iteration) }
     ensures small { result ≤ 65536 }

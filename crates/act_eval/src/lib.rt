@@ -4,10 +4,18 @@
 #![tactic(auto)]
 
 mod acts;
+mod joins;
 mod number;
 mod ops;
+mod parts;
 mod site;
+#[cfg(test)]
+mod tests;
+mod values;
 
 pub use acts::run_acts;
+pub use joins::run_join;
 pub use number::{binary_value, unary_value};
-pub use site::{End, Site};
+pub use parts::run_part;
+pub use site::{End, Site, Worth};
+pub use values::value_at;

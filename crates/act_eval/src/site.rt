@@ -41,3 +41,11 @@ pub enum End {
     Closed,
     Failed,
 }
+
+/// What an iteration of a Part gives: its value, nothing behind a gate that is shut, or the key of its fault.
+#[derive(Clone, Copy, Debug, PartialEq, Eq)]
+pub enum Worth {
+    Value(i64),
+    Nothing,
+    Fault(u64),
+}

@@ -1,10 +1,7 @@
 use Rattle.std.specs.Prelude.{Bool, T, not}
-use Rattle.std.proofs.Common.{◌≡◌, ℕ, suc, ◌+◌, List, [], length, take, drop, sym, refl, ap, ◌∙◌, subst, ℤ}
-use Rattle.phase_ops.specs.declared.effect.Effect.{Effect}
+use Rattle.std.proofs.Common.{ℕ, List, length, take, sym, ◌∙◌, subst}
 use Rattle.phase_ops.specs.declared.phase.Act.{Act}
-use Rattle.phase_ops.specs.Phases.{acts_events}
-use Rattle.act_eval.specs.declared.site.End.TheVariants.{Failed}
-use Rattle.act_eval.specs.Sites.{View, Comes, Ended}
+use Rattle.act_eval.specs.Sites.{View}
 use Rattle.act_eval.proofs.Leads.{led_then}
 use Rattle.act_eval.proofs.ActSteps.{rest_of, act_opened, act_done}
 use Rattle.act_eval.proofs.acts.run_acts.Goals as goal

@@ -1,4 +1,4 @@
-use Rattle.std.proofs.Common.{◌≡◌, ℕ, ◌≤◌, List, [], length, drop, take}
+use Rattle.std.proofs.Common.{◌≡◌, List, length, drop}
 use Rattle.phase_ops.specs.declared.effect.Effect.{Effect}
 use Rattle.phase_ops.specs.Phases.{acts_events}
 use Rattle.act_eval.specs.Sites.{Led, Comes}

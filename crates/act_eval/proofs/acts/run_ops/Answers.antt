@@ -1,18 +1,16 @@
 use Rattle.phase_ops.specs.declared.effect.Effect.TheVariants.{Fault}
 use Rattle.std.proofs.lemmas.Int.{to_z-of_z}
-use Rattle.std.proofs.lemmas.List.{take_more_set, drop_all, take_all}
+use Rattle.std.proofs.lemmas.List.{take_more_set, drop_all}
 use Rattle.phase_ops.specs.declared.phase.Micro.{Micro}
-use Rattle.phase_ops.specs.declared.effect.Turn.{Turn}
-use Rattle.phase_ops.specs.declared.effect.Turn.TheVariants.{Next, Shut, Fails, Does}
-use Rattle.act_eval.proofs.OpSteps.{Before, opened_at, may_looks, named_small, all_positive, follow_turn, effect_next, fault_next, effect_done, moved}
+use Rattle.phase_ops.specs.declared.effect.Turn.TheVariants.{Next}
+use Rattle.act_eval.proofs.OpSteps.{Before, opened_at, may_looks, named_small, follow_turn, effect_next, fault_next, effect_done, moved}
 use Rattle.act_eval.proofs.Leads.{led_same, led_then, led_by}
 use Rattle.act_eval.proofs.acts.run_ops.Goals.{in-Next, in-Does}
-use Rattle.std.proofs.Common.{inl, inr, sym, refl, subst, ap, ◌∙◌, arith, length-set, length-take-le, set, of_z, rules, ◌≡◌, ◌⊎◌, ℕ, zero, suc, ◌+◌, ◌*◌, ◌≤◌, ◌<◌, ◌≢◌, List, [], ◌∷◌, ◌++◌, length, drop, take, slice_index, slice_index_or, ℤ, pos, ◌+ℤ◌, ◌*ℤ◌, ◌<ℤ◌, int_div, int_rem, ◌-◌, ◌/◌, ◌%◌, Bool, true, false, nat_eq, nat_lt, slice_set, bit_and, bit_or, Fits, w8, w32, Bor, MutBor}
-use Rattle.std.specs.Int.{w64, int_wrap, cast_signed}
+use Rattle.std.proofs.Common.{sym, subst, ap, ◌∙◌, arith, length-set, length-take-le, set, of_z, ◌≡◌, ℕ, ◌+◌, ◌*◌, ◌<◌, List, [], ◌∷◌, length, drop, take, ℤ, pos}
+use Rattle.std.specs.Int.{w64, cast_signed}
 use Rattle.phase_ops.specs.declared.effect.Effect.{Effect}
-use Rattle.phase_ops.specs.Phases.{Cells, source, source_cells, register, terms, term_cells, address, address_cells, looks, divisors, turn, over, ops_events, fault_number, Spot}
-use Rattle.phase_ops.specs.Free.{In}
-use Rattle.act_eval.specs.Sites.{View, Small, Comes, Rest, spot_of, named_cells, Ended}
+use Rattle.phase_ops.specs.Phases.{over, ops_events, fault_number, Spot}
+use Rattle.act_eval.specs.Sites.{View, Comes, Rest, spot_of}
 use Rattle.act_eval.proofs.acts.run_ops.Goals as goal
 
 pub turn_at-turn-requires-clause-loads : goal.turn_at-turn-requires-clause-loads

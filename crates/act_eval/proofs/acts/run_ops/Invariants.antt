@@ -1,4 +1,4 @@
-use Rattle.std.proofs.Common.{◌≡◌, ℕ, ◌≤◌, List, [], length, drop, take}
+use Rattle.std.proofs.Common.{◌≡◌, List, [], length, drop, take}
 use Rattle.phase_ops.specs.declared.effect.Effect.{Effect}
 use Rattle.phase_ops.specs.Phases.{ops_events}
 use Rattle.act_eval.specs.Sites.{Led, Comes, Rest, spot_of}

@@ -1,4 +1,4 @@
-use Rattle.std.proofs.Common.{◌≡◌, ℕ, ◌+◌, ◌%◌, ◌≤◌, arith}
+use Rattle.std.proofs.Common.{◌+◌, ◌%◌, arith}
 use Rattle.act_eval.proofs.Exponents.{same_power}
 use Rattle.act_eval.proofs.number.exponent.Goals as goal
 

@@ -2,16 +2,14 @@ use Rattle.std.proofs.lemmas.Int.{to_z-of_z}
 use Rattle.std.proofs.Math.Facts.{sfits_to_z}
 use Rattle.std.proofs.lemmas.List.{drop_all}
 use Rattle.phase_ops.specs.declared.phase.Source.TheVariants.{Fixed}
-use Rattle.phase_ops.specs.declared.phase.Source.{Source}
 use Rattle.phase_ops.specs.declared.phase.Term.{Term}
 use Rattle.phase_ops.proofs.Members.{in_left, in_right}
 use Rattle.act_eval.proofs.Addresses.{step_law, finish_law, term_next, term_load}
-use Rattle.std.proofs.Common.{inl, inr, sym, refl, subst, ap, ◌∙◌, arith, rules, ◌≡◌, ◌⊎◌, ℕ, zero, suc, ◌+◌, ◌*◌, ◌≤◌, ◌<◌, ◌≢◌, List, [], ◌∷◌, ◌++◌, length, drop, take, slice_index, slice_index_or, ℤ, pos, ◌+ℤ◌, ◌*ℤ◌, ◌<ℤ◌, ◌-◌, ◌/◌, ◌%◌, Bool, true, false, nat_eq, nat_lt, slice_set, bit_and, bit_or, Fits, w8, w32, Bor, MutBor, ◌-ℤ◌, ◌≤ℤ◌, FitsSigned, to_z, of_z}
-use Rattle.std.specs.Int.{w64, int_wrap, cast_signed}
-use Rattle.phase_ops.specs.declared.effect.Effect.{Effect}
-use Rattle.phase_ops.specs.Phases.{Cells, source, source_cells, register, terms, term_cells, address, address_cells, looks, divisors, turn, over, ops_events, fault_number, Spot}
+use Rattle.std.proofs.Common.{sym, subst, ap, ◌∙◌, ◌≡◌, ◌+◌, ◌≤◌, List, [], length, drop, slice_index_or, ℤ, pos, ◌+ℤ◌, ◌*ℤ◌, to_z, of_z}
+use Rattle.std.specs.Int.{w64, int_wrap}
+use Rattle.phase_ops.specs.Phases.{Cells, source, source_cells, register, terms, term_cells}
 use Rattle.phase_ops.specs.Free.{In}
-use Rattle.act_eval.specs.Sites.{View, Small, Comes, Rest, named_cells, Ended}
+use Rattle.act_eval.specs.Sites.{View, Small}
 use Rattle.act_eval.proofs.ops.address_at.Goals as goal
 
 abbrev no_term : Term

@@ -1,9 +1,6 @@
-use Rattle.std.proofs.Common.{◌≡◌, ◌⊎◌, ℕ, zero, suc, ◌+◌, ◌*◌, ◌≤◌, ◌<◌, ◌≢◌, List, [], ◌∷◌, ◌++◌, length, drop, take, slice_index, slice_index_or, ℤ, pos, ◌+ℤ◌, ◌*ℤ◌, ◌<ℤ◌, ◌-◌, ◌-ℤ◌, ◌≤ℤ◌, FitsSigned, to_z, of_z}
-use Rattle.std.specs.Int.{w64, int_wrap, cast_signed}
-use Rattle.phase_ops.specs.declared.effect.Effect.{Effect}
-use Rattle.phase_ops.specs.Phases.{Cells, source, source_cells, register, terms, term_cells, address, address_cells, looks, divisors, turn, over, ops_events, fault_number, Spot}
-use Rattle.phase_ops.specs.Free.{In}
-use Rattle.act_eval.specs.Sites.{View, Small, Comes, Rest, named_cells, Ended}
+use Rattle.std.proofs.Common.{◌≡◌, drop, ◌+ℤ◌}
+use Rattle.std.specs.Int.{w64, int_wrap}
+use Rattle.phase_ops.specs.Phases.{Cells, source, terms}
 use Rattle.act_eval.proofs.ops.address_at.Given as goal
 
 abbrev pub invariant-loop-at : goal.invariant-loop-at

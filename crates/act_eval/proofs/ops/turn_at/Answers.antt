@@ -1,15 +1,11 @@
 use Rattle.std.proofs.lemmas.Int.{to_z-of_z}
 use Rattle.phase_ops.specs.declared.phase.Micro.{Micro}
-use Rattle.phase_ops.specs.declared.phase.Micro.TheVariants as micro
-use Rattle.phase_ops.specs.declared.phase.Source.{Source}
-use Rattle.phase_ops.specs.declared.effect.Turn.TheVariants.{Next}
 use Rattle.phase_ops.proofs.Members.{in_left, in_right}
-use Rattle.std.proofs.Common.{inl, inr, sym, refl, subst, ap, ◌∙◌, arith, rules, ◌≡◌, ◌⊎◌, ℕ, zero, suc, ◌+◌, ◌*◌, ◌≤◌, ◌<◌, ◌≢◌, List, [], ◌∷◌, ◌++◌, length, drop, take, slice_index, slice_index_or, ℤ, pos, ◌+ℤ◌, ◌*ℤ◌, ◌<ℤ◌, ◌-◌, ◌/◌, ◌%◌, Bool, true, false, nat_eq, nat_lt, slice_set, bit_and, bit_or, Fits, w8, w32, Bor, MutBor, ◌-ℤ◌, ◌≤ℤ◌, FitsSigned, to_z, of_z}
-use Rattle.std.specs.Int.{w64, int_wrap, cast_signed}
-use Rattle.phase_ops.specs.declared.effect.Effect.{Effect}
-use Rattle.phase_ops.specs.Phases.{Cells, source, source_cells, register, terms, term_cells, address, address_cells, looks, divisors, turn, over, ops_events, fault_number, Spot}
+use Rattle.std.proofs.Common.{inl, inr, sym, refl, subst, ap, ◌∙◌, ◌≡◌, ℕ, [], ◌∷◌, ℤ, pos, ◌<ℤ◌, to_z, of_z}
+use Rattle.std.specs.Int.{w64}
+use Rattle.phase_ops.specs.Phases.{Cells, source, source_cells, address, address_cells, looks, divisors}
 use Rattle.phase_ops.specs.Free.{In}
-use Rattle.act_eval.specs.Sites.{View, Small, Comes, Rest, named_cells, Ended}
+use Rattle.act_eval.specs.Sites.{View, Small, named_cells}
 use Rattle.act_eval.proofs.ops.turn_at.Goals as goal
 
 pub source_at-by-requires-clause-loads : goal.source_at-by-requires-clause-loads
