@@ -20,16 +20,24 @@ fn is_refused(alloc: Global, source: &[u8]) -> bool {
     matches!(read(alloc, source), Err(Failed::Syntax))
 }
 
+/// A power whose exponent is a power.
+fn is_power_of_power(tree: &Expr) -> bool {
+    match tree {
+        Expr::Binary(BinOp::Pow, _, exponent) => is_power(exponent.get()),
+        _ => false,
+    }
+}
+
+fn is_power(tree: &Expr) -> bool {
+    matches!(tree, Expr::Binary(BinOp::Pow, _, _))
+}
+
 #[test]
 fn powers_go_from_right_to_left(rt: HostRuntime) -> Result<(), Fail> {
     let alloc = rt.alloc();
     let e = read(alloc, b"2**3**2")?;
     assert_eq!(rt; e.depth, 3);
-    let right = match e.tree {
-        Expr::Binary(BinOp::Pow, _, right) => right.into_inner(),
-        _ => Expr::TooWide,
-    };
-    assert!(rt; matches!(right, Expr::Binary(BinOp::Pow, _, _)));
+    assert!(rt; is_power_of_power(&e.tree));
     let e = read(alloc, b"-a**2")?;
     assert!(rt; matches!(e.tree, Expr::Unary(_, _)));
     Ok(())
