@@ -10,19 +10,19 @@ use Rattle.ws_tree.specs.declared.stmt.Body.TheBlock.{hidden-the_row-Stmt-0, hid
 use Rattle.ws_tree.specs.Opened.{trees_open}
 use Rattle.ws_tree.specs.declared.stmt.Body.TheViews.{roll-Else, out-Else, roll-out-Else}
 use Rattle.ws_base.specs.declared.refusal.RefusalKind.TheVariants as kind
-use Rattle.ws_sema.specs.declared.types.Row.{Row}
-use Rattle.ws_sema.specs.declared.types.Within.{Within}
-use Rattle.ws_sema.specs.declared.types.Within.TheVariants as within
-use Rattle.ws_sema.specs.Kinds.{when, least_from}
+use Rattle.ws_types.specs.declared.types.Row.{Row}
+use Rattle.ws_sema.specs.declared.within.Within.{Within}
+use Rattle.ws_sema.specs.declared.within.Within.TheVariants as within
+use Rattle.ws_types.specs.Kinds.{when, least_from}
 use Rattle.ws_tree.specs.declared.stmt.Body.{Body}
 use Rattle.ws_tree.specs.declared.expr.Expr.TheVariants.{Part}
 use Rattle.ws_tree.specs.declared.expr.Sub.{Sub}
-use Rattle.ws_sema.specs.declared.types.Subscripts.{Subscripts}
-use Rattle.ws_sema.specs.Operations.{no_subscripts}
-use Rattle.ws_sema.specs.Lists as lists
-use Rattle.ws_sema.proofs.Walks.{subscripts_list}
+use Rattle.ws_types.specs.declared.types.Subscripts.{Subscripts}
+use Rattle.ws_types.specs.Operations.{no_subscripts}
+use Rattle.ws_types.specs.Lists as lists
+use Rattle.ws_types.proofs.Walks.{subscripts_list}
 use Rattle.ws_sema.specs.Statements as s
-use Rattle.ws_sema.proofs.Appended.{least-append, least-none}
+use Rattle.ws_types.proofs.Appended.{least-append, least-none}
 
 block_list : (t : List Row) (w : Within) (ss : List Stmt) → s.block_faults t w (hidden-the_row-Stmt-0 ss) ≡ s.stmts_faults t w ss
 unfolding trees_open

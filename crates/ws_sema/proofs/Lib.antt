@@ -1,5 +1,3 @@
-pub mod Appended
-pub mod Walks
 pub mod Extents
 pub mod Headers
 pub mod Blocks

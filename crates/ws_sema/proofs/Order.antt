@@ -7,13 +7,13 @@ use Rattle.ws_base.specs.Words.{kind_number}
 use Rattle.ws_tree.specs.declared.stmt.Tree.{Tree}
 use Rattle.ws_tree.specs.declared.stmt.Decl.{Decl}
 use Rattle.ws_tree.specs.declared.stmt.Stmt.{Stmt}
-use Rattle.ws_sema.specs.declared.types.Row.{Row}
-use Rattle.ws_sema.specs.declared.types.Within.TheVariants.{Outside}
+use Rattle.ws_types.specs.declared.types.Row.{Row}
+use Rattle.ws_sema.specs.declared.within.Within.TheVariants.{Outside}
 use Rattle.ws_sema.specs.Declarations.{decls_faults, table_of}
 use Rattle.ws_sema.specs.Statements.{stmts_faults}
 use Rattle.ws_sema.specs.Checks.{rule_faults}
-use Rattle.ws_sema.proofs.Appended.{least-append}
-use Rattle.ws_sema.specs.Kinds.{precedes, least_from, IsNotAfter, IsAmong, IsBeforeAll, IsLeast}
+use Rattle.ws_types.proofs.Appended.{least-append}
+use Rattle.ws_types.specs.Kinds.{precedes, least_from, IsNotAfter, IsAmong, IsBeforeAll, IsLeast}
 
 before_numbers : (l k m n : ℕ) → ((l < m) ⊎ ((l ≡ m) × (k ≤ n))) → (p q : ℕ) → ((m < p) ⊎ ((m ≡ p) × (n ≤ q))) → ((l < p) ⊎ ((l ≡ p) × (k ≤ q)))
 before_numbers l k m n (inl h) p q (inl g) = inl (omega arith)

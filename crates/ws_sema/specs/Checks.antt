@@ -2,7 +2,7 @@
 use Rattle.std.specs.Prelude.{List, [], ◌++◌}
 use Rattle.ws_base.specs.declared.refusal.Refusal.{Refusal}
 use Rattle.ws_tree.specs.declared.stmt.Tree.{Tree}
-use Rattle.ws_sema.specs.declared.types.Within.TheVariants.{Outside}
+use Rattle.ws_sema.specs.declared.within.Within.TheVariants.{Outside}
 use Rattle.ws_sema.specs.Declarations.{decls_faults, table_of}
 use Rattle.ws_sema.specs.Statements.{stmts_faults}
 

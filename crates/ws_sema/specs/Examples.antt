@@ -16,7 +16,7 @@ use Rattle.ws_tree.specs.declared.stmt.Stmt.{Stmt}
 use Rattle.ws_tree.specs.declared.stmt.Else.{Else, roll-Else}
 use Rattle.ws_tree.specs.declared.stmt.Body.{Body}
 use Rattle.ws_tree.specs.declared.stmt.Body.TheVariants.{Assign, Masked, Forall, Loop, Allocate, Shared}
-use Rattle.ws_sema.specs.Kinds.{least_from}
+use Rattle.ws_types.specs.Kinds.{least_from}
 use Rattle.ws_sema.specs.Checks.{rule_faults}
 
 abbrev pub first : Tree → Option Refusal

@@ -14,17 +14,17 @@ use Rattle.ws_tree.specs.declared.stmt.Body.{Body}
 use Rattle.ws_tree.specs.declared.stmt.Body.TheVariants.{Assign, Masked', Forall', Loop', Allocate, Deallocate, Read, Shared', Unsupported, TooDeep as TooDeep'}
 use Rattle.ws_tree.specs.declared.stmt.Else.{Else, Else'}
 use Rattle.ws_tree.specs.Trees.{Stmts, end_stmts, more_stmts, Elses, end_elses, more_elses}
-use Rattle.ws_sema.specs.declared.types.Typed.{Typed}
-use Rattle.ws_sema.specs.declared.types.Standing.{Standing}
-use Rattle.ws_sema.specs.declared.types.Standing.TheVariants.{Declared, Active, Index as Index', Barred}
-use Rattle.ws_sema.specs.declared.types.Row.{Row}
-use Rattle.ws_sema.specs.declared.types.Within.{Within}
-use Rattle.ws_sema.specs.declared.types.Within.TheVariants as within
-use Rattle.ws_sema.specs.Kinds.{when}
-use Rattle.ws_sema.specs.Names.{Name, standing_of, name_type, name_faults, is_constant, is_active, is_no_allocatable, target_faults, target_type}
-use Rattle.ws_sema.specs.Operations.{is_other_type, is_above, scalar_faults, no_subscripts}
-use Rattle.ws_sema.specs.Expressions.{typed, faults, subscripts}
-use Rattle.ws_sema.specs.Lists.{given_faults}
+use Rattle.ws_types.specs.declared.types.Typed.{Typed}
+use Rattle.ws_types.specs.declared.types.Standing.{Standing}
+use Rattle.ws_types.specs.declared.types.Standing.TheVariants.{Declared, Active, Index as Index', Barred}
+use Rattle.ws_types.specs.declared.types.Row.{Row}
+use Rattle.ws_sema.specs.declared.within.Within.{Within}
+use Rattle.ws_sema.specs.declared.within.Within.TheVariants as within
+use Rattle.ws_types.specs.Kinds.{when}
+use Rattle.ws_types.specs.Names.{Name, standing_of, name_type, name_faults, is_constant, is_active, is_no_allocatable, target_faults, target_type}
+use Rattle.ws_types.specs.Operations.{is_other_type, is_above, scalar_faults, no_subscripts}
+use Rattle.ws_types.specs.Expressions.{typed, faults, subscripts}
+use Rattle.ws_types.specs.Lists.{given_faults}
 
 -- ---- sides
 

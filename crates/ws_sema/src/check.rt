@@ -1,12 +1,12 @@
 //! The first fault of a tree.
 
 ghost use Rattle.std.specs.Prelude.{◌≡◌, [], IfOk, MatchOption};
-ghost use Rattle.ws_sema.specs.Kinds.{IsLeast};
+ghost use Rattle.ws_types.specs.Kinds.{IsLeast};
 ghost use Rattle.ws_sema.specs.Checks.{rule_faults};
 
 use crate::decl::{check_decls, table_of};
-use crate::types::Within;
 use crate::walk::stmts;
+use crate::within::Within;
 use std::alloc::{AllocError, Global};
 use ws_base::Refusal;
 use ws_tree::Tree;

@@ -2,18 +2,13 @@
 #![tactic(auto)]
 
 mod check;
-mod constant;
 mod decl;
-mod expr;
 mod laws;
-mod least;
-mod names;
-mod operations;
 mod stmt;
 #[cfg(test)]
 mod tests;
-mod types;
 mod walk;
+mod within;
 
 pub use check::first_fault;
 pub use laws::{declaration_examples, expression_examples, statement_examples};

@@ -1,8 +1,8 @@
 //! The rules on operators, subscripts, constructors and calls.
 
 ghost use Rattle.std.specs.Prelude.{◌≡◌, ◌<◌};
-ghost use Rattle.ws_sema.specs.Kinds.{least_from};
-ghost use Rattle.ws_sema.specs.Operations as operations;
+ghost use Rattle.ws_types.specs.Kinds.{least_from};
+ghost use Rattle.ws_types.specs.Operations as operations;
 
 use crate::least::note;
 use crate::names::{check_name, is_no_allocatable, name_type};

@@ -5,7 +5,7 @@ use Rattle.std.proofs.Math.ListN.{drop_of_length-le}
 use Rattle.std.specs.List.{flat_map}
 use Rattle.std.proofs.lemmas.List.{take_more}
 use Rattle.ws_base.specs.declared.refusal.Refusal.{Refusal}
-use Rattle.ws_sema.specs.Kinds.{least_from, lesser}
+use Rattle.ws_types.specs.Kinds.{least_from, lesser}
 
 pub least-append : (found : Option Refusal) (xs ys : List Refusal) → least_from found (xs ++ ys) ≡ least_from (least_from found xs) ys
 unfolding least_from

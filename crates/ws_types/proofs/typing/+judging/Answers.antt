@@ -1,10 +1,10 @@
 use Rattle.std.proofs.Common.{◌∙◌, ap, sym, arith, drop, ◌+◌}
-use Rattle.ws_sema.specs.Operations.{with_argument}
-use Rattle.ws_sema.specs.Expressions as one
-use Rattle.ws_sema.specs.Lists as lists
-use Rattle.ws_sema.proofs.Appended.{front, next, done}
-use Rattle.ws_sema.proofs.Walks.{part_value, part_noted, call_value, call_noted, unary_noted, binary_noted}
-use Rattle.ws_sema.proofs.expr.+judging.Goals as goal
+use Rattle.ws_types.specs.Operations.{with_argument}
+use Rattle.ws_types.specs.Expressions as one
+use Rattle.ws_types.specs.Lists as lists
+use Rattle.ws_types.proofs.Appended.{front, next, done}
+use Rattle.ws_types.proofs.Walks.{part_value, part_noted, call_value, call_noted, unary_noted, binary_noted}
+use Rattle.ws_types.proofs.typing.+judging.Goals as goal
 
 pub arguments-each-preserved : goal.arguments-each-preserved
 arguments-each-preserved t c = record {

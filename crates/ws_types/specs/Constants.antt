@@ -10,12 +10,12 @@ use Rattle.ws_base.specs.Numbers.{Exact, default_half, unary_value, binary_value
 use Rattle.ws_tree.specs.declared.expr.Expr.{Expr}
 use Rattle.ws_tree.specs.declared.expr.Expr.TheVariants.{Number, TooWide, TooDeep, Truth, Named}
 use Rattle.ws_tree.specs.Trees.{paren, unary, binary}
-use Rattle.ws_sema.specs.declared.constant.Constant.{Constant}
-use Rattle.ws_sema.specs.declared.constant.Constancy.{Constancy}
-use Rattle.ws_sema.specs.declared.constant.Constancy.TheVariants.{Value, NoValue, NotConstant}
-use Rattle.ws_sema.specs.Kinds.{when}
-use Rattle.ws_sema.specs.Names.{Name}
-use Rattle.ws_sema.specs.Expressions.{number_limit}
+use Rattle.ws_types.specs.declared.constant.Constant.{Constant}
+use Rattle.ws_types.specs.declared.constant.Constancy.{Constancy}
+use Rattle.ws_types.specs.declared.constant.Constancy.TheVariants.{Value, NoValue, NotConstant}
+use Rattle.ws_types.specs.Kinds.{when}
+use Rattle.ws_types.specs.Names.{Name}
+use Rattle.ws_types.specs.Expressions.{number_limit}
 
 abbrev pub known : Option ℤ → Constancy
 known (Some z) = Value z

@@ -1,8 +1,8 @@
 use Rattle.std.proofs.Common.{◌≡◌, ◌≤◌, drop}
-use Rattle.ws_sema.specs.Kinds.{least_from}
-use Rattle.ws_sema.specs.Operations.{no_arguments, no_subscripts}
-use Rattle.ws_sema.specs.Lists as lists
-use Rattle.ws_sema.proofs.expr.+judging.Given as goal
+use Rattle.ws_types.specs.Kinds.{least_from}
+use Rattle.ws_types.specs.Operations.{no_arguments, no_subscripts}
+use Rattle.ws_types.specs.Lists as lists
+use Rattle.ws_types.proofs.typing.+judging.Given as goal
 
 abbrev pub invariant-arguments-each : goal.invariant-arguments-each
 invariant-arguments-each l = record {

@@ -1,8 +1,8 @@
 //! The use of names.
 
 ghost use Rattle.std.specs.Prelude.{◌≡◌, IsTrue};
-ghost use Rattle.ws_sema.specs.Kinds.{least_from};
-ghost use Rattle.ws_sema.specs.Names as names;
+ghost use Rattle.ws_types.specs.Kinds.{least_from};
+ghost use Rattle.ws_types.specs.Names as names;
 
 use crate::least::note;
 use crate::types::{Entry, Row, Standing, Typed};

@@ -10,12 +10,12 @@ use Rattle.ws_base.specs.declared.refusal.RefusalKind.TheVariants as kind
 use Rattle.ws_base.specs.declared.refusal.Refusal.{Refusal}
 use Rattle.ws_tree.specs.declared.expr.Expr.{Expr}
 use Rattle.ws_tree.specs.declared.expr.Expr.TheVariants.{Number, TooWide, Named}
-use Rattle.ws_sema.specs.declared.types.Typed.{Typed}
-use Rattle.ws_sema.specs.declared.types.Standing.{Standing}
-use Rattle.ws_sema.specs.declared.types.Arguments.{Arguments}
-use Rattle.ws_sema.specs.declared.types.Subscripts.{Subscripts}
-use Rattle.ws_sema.specs.Kinds.{when}
-use Rattle.ws_sema.specs.Names.{name_type, name_faults, is_no_allocatable}
+use Rattle.ws_types.specs.declared.types.Typed.{Typed}
+use Rattle.ws_types.specs.declared.types.Standing.{Standing}
+use Rattle.ws_types.specs.declared.types.Arguments.{Arguments}
+use Rattle.ws_types.specs.declared.types.Subscripts.{Subscripts}
+use Rattle.ws_types.specs.Kinds.{when}
+use Rattle.ws_types.specs.Names.{name_type, name_faults, is_no_allocatable}
 
 -- ---- operators
 

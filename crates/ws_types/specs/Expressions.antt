@@ -8,14 +8,14 @@ use Rattle.ws_tree.specs.declared.expr.Expr.TheVariants.{Number, TooWide, TooDee
 use Rattle.ws_tree.specs.declared.expr.Sub.{Sub}
 use Rattle.ws_tree.specs.declared.expr.Sub.TheVariants as sub
 use Rattle.ws_tree.specs.Trees.{Exprs, end_exprs, more_exprs, Subs, end_subs, more_subs, Given, absent, given, paren, unary, binary}
-use Rattle.ws_sema.specs.declared.types.Typed.{Typed}
-use Rattle.ws_sema.specs.declared.types.Row.{Row}
-use Rattle.ws_sema.specs.declared.types.Standing.{Standing}
-use Rattle.ws_sema.specs.declared.types.Arguments.{Arguments}
-use Rattle.ws_sema.specs.declared.types.Subscripts.{Subscripts}
-use Rattle.ws_sema.specs.Kinds.{when}
-use Rattle.ws_sema.specs.Names.{Name, standing_of, name_type, name_faults, logical, integer}
-use Rattle.ws_sema.specs.Operations.{unary_faults, unary_type, binary_faults, binary_type, scalar_faults, is_scalar, subscript_faults, with_subscript, with_triplet, no_subscripts, part_faults, part_type, no_arguments, with_argument, vector_faults, vector_type, takes, is_inquiry, call_faults, call_type, inquiry_faults, inquiry_type}
+use Rattle.ws_types.specs.declared.types.Typed.{Typed}
+use Rattle.ws_types.specs.declared.types.Row.{Row}
+use Rattle.ws_types.specs.declared.types.Standing.{Standing}
+use Rattle.ws_types.specs.declared.types.Arguments.{Arguments}
+use Rattle.ws_types.specs.declared.types.Subscripts.{Subscripts}
+use Rattle.ws_types.specs.Kinds.{when}
+use Rattle.ws_types.specs.Names.{Name, standing_of, name_type, name_faults, logical, integer}
+use Rattle.ws_types.specs.Operations.{unary_faults, unary_type, binary_faults, binary_type, scalar_faults, is_scalar, subscript_faults, with_subscript, with_triplet, no_subscripts, part_faults, part_type, no_arguments, with_argument, vector_faults, vector_type, takes, is_inquiry, call_faults, call_type, inquiry_faults, inquiry_type}
 
 abbrev pub listed : {m : _} → Exprs m → List Expr
 listed end_exprs = []

@@ -1,5 +1,5 @@
 -- The walks at each form of expression, over the lists that the code goes over.
-use Rattle.ws_sema.specs.Kinds.{least_from}
+use Rattle.ws_types.specs.Kinds.{least_from}
 use Rattle.std.proofs.Common.{◌≡◌, refl, ap, sym, ℕ, suc, Bool, List, [], ◌∷◌, ◌++◌, length, Option, ◌∙◌}
 use Rattle.ws_base.specs.declared.refusal.Refusal.{Refusal}
 use Rattle.ws_base.specs.declared.op.CallWord.{CallWord}
@@ -10,14 +10,14 @@ use Rattle.ws_tree.specs.declared.expr.Expr.TheVariants.{Part, Call, Vector, Una
 use Rattle.ws_tree.specs.declared.expr.Expr.TheBlock.{hidden-the_row-Expr-1, hidden-the_row-Sub-0}
 use Rattle.ws_tree.specs.declared.expr.Sub.{Sub}
 use Rattle.ws_tree.specs.Opened.{trees_open}
-use Rattle.ws_sema.specs.declared.types.Typed.{Typed}
-use Rattle.ws_sema.specs.declared.types.Row.{Row}
-use Rattle.ws_sema.specs.declared.types.Arguments.{Arguments}
-use Rattle.ws_sema.specs.declared.types.Subscripts.{Subscripts}
-use Rattle.ws_sema.specs.Operations.{unary_faults, binary_faults, no_subscripts, no_arguments, part_type, part_faults, vector_type, vector_faults, with_argument}
-use Rattle.ws_sema.specs.Expressions as one
-use Rattle.ws_sema.specs.Lists as lists
-use Rattle.ws_sema.proofs.Appended.{least-append, least-none}
+use Rattle.ws_types.specs.declared.types.Typed.{Typed}
+use Rattle.ws_types.specs.declared.types.Row.{Row}
+use Rattle.ws_types.specs.declared.types.Arguments.{Arguments}
+use Rattle.ws_types.specs.declared.types.Subscripts.{Subscripts}
+use Rattle.ws_types.specs.Operations.{unary_faults, binary_faults, no_subscripts, no_arguments, part_type, part_faults, vector_type, vector_faults, with_argument}
+use Rattle.ws_types.specs.Expressions as one
+use Rattle.ws_types.specs.Lists as lists
+use Rattle.ws_types.proofs.Appended.{least-append, least-none}
 
 arguments_list : (t : List Row) (inside : Bool) (a : Arguments) (es : List Expr) → one.arguments t inside a (hidden-the_row-Expr-1 es) ≡ lists.arguments t inside a es
 unfolding trees_open

@@ -1,7 +1,7 @@
 //! The least fault found so far.
 
 ghost use Rattle.std.specs.Prelude.{◌≡◌};
-ghost use Rattle.ws_sema.specs.Kinds.{when, precedes, least_from};
+ghost use Rattle.ws_types.specs.Kinds.{when, precedes, least_from};
 
 use ws_base::{Refusal, RefusalKind};
 

@@ -4,11 +4,11 @@ use Rattle.std.specs.List.{flat_map}
 use Rattle.ws_base.specs.declared.refusal.Refusal.{Refusal}
 use Rattle.ws_tree.specs.declared.expr.Expr.{Expr}
 use Rattle.ws_tree.specs.declared.expr.Sub.{Sub}
-use Rattle.ws_sema.specs.declared.types.Row.{Row}
-use Rattle.ws_sema.specs.declared.types.Arguments.{Arguments}
-use Rattle.ws_sema.specs.declared.types.Subscripts.{Subscripts}
-use Rattle.ws_sema.specs.Operations.{scalar_faults, is_scalar, with_argument}
-use Rattle.ws_sema.specs.Expressions.{typed, faults, with_sub, sub_faults}
+use Rattle.ws_types.specs.declared.types.Row.{Row}
+use Rattle.ws_types.specs.declared.types.Arguments.{Arguments}
+use Rattle.ws_types.specs.declared.types.Subscripts.{Subscripts}
+use Rattle.ws_types.specs.Operations.{scalar_faults, is_scalar, with_argument}
+use Rattle.ws_types.specs.Expressions.{typed, faults, with_sub, sub_faults}
 
 abbrev pub arguments : List Row → Bool → Arguments → List Expr → Arguments
 arguments t inside a [] = a

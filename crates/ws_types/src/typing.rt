@@ -1,10 +1,10 @@
 //! Type and rank of expressions, and the faults in them.
 
 ghost use Rattle.std.specs.Prelude.{◌≡◌, ◌≤◌, ◌+◌, ◌<◌, length};
-ghost use Rattle.ws_sema.specs.Kinds.{least_from};
-ghost use Rattle.ws_sema.specs.Expressions as expressions;
-ghost use Rattle.ws_sema.specs.Lists as lists;
-ghost use Rattle.ws_sema.specs.Operations.{no_subscripts, no_arguments, is_scalar};
+ghost use Rattle.ws_types.specs.Kinds.{least_from};
+ghost use Rattle.ws_types.specs.Expressions as expressions;
+ghost use Rattle.ws_types.specs.Lists as lists;
+ghost use Rattle.ws_types.specs.Operations.{no_subscripts, no_arguments, is_scalar};
 
 use crate::least::note;
 use crate::names::{check_name, name_type, standing_of};

@@ -2,8 +2,8 @@
 
 ghost use Rattle.std.specs.Prelude.{◌≡◌, true, IsTrue};
 ghost use Rattle.ws_base.specs.Numbers.{default_half, unary_value, binary_value};
-ghost use Rattle.ws_sema.specs.Kinds.{least_from};
-ghost use Rattle.ws_sema.specs.Constants as constants;
+ghost use Rattle.ws_types.specs.Kinds.{least_from};
+ghost use Rattle.ws_types.specs.Constants as constants;
 
 use crate::least::note;
 use ws_base::{
