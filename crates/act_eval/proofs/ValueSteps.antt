@@ -16,7 +16,7 @@ use Rattle.act_eval.specs.Sites.{Small, Rest, MayLook, IsWorth, named_cells}
 use Rattle.act_eval.specs.declared.site.Worth.TheVariants as worth
 use Rattle.act_eval.proofs.OpSteps.{makes_plain, divides_plain}
 
-gives_plain : (cs : List ℕ) (ds : List ℤ) (es : List Event) → gives (plain cs ds es) ≡ gives es
+pub gives_plain : (cs : List ℕ) (ds : List ℤ) (es : List Event) → gives (plain cs ds es) ≡ gives es
 gives_plain [] [] es = refl
 gives_plain [] (d ∷ ds) es = gives_plain [] ds es
 gives_plain (c ∷ cs) ds es = gives_plain cs ds es
