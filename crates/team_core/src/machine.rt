@@ -25,11 +25,14 @@ pub trait UnitWork<P> {
 
     ghost entered: { Self → ℕ };
 
+    ghost made_for: { Self → P → Type 0 };
+
     ghost ready: { Self → P → Type 0 };
 
     /// Goes to a phase, which begins over these cells.
     fn enter(&mut self, plan: &P, phase: u64, cells: &[u64])
-        requires { Enters (course self.old plan.now) phase cells.now }
+        requires made { made_for self.old plan.now }
+        requires enters { Enters (course self.old plan.now) phase cells.now }
         ensures course { course self.new plan.now ≡ course self.old plan.now }
         ensures entered { entered self.new ≡ phase }
         ensures ready { ready self.new plan.now };
@@ -47,6 +50,8 @@ pub trait UnitWork<P> {
         ensures course { course self.new plan.now ≡ course self.old plan.now }
         ensures entered { entered self.new ≡ entered self.old }
         ensures ready { ready self.new plan.now };
+
+    ghost stays_made: { (w : Self) (p : P) → ready w p → made_for w p };
 }
 
 /// The member's state does not allow the step.
@@ -78,6 +83,7 @@ impl<W> Machine<W> {
     where
         W: UnitWork<P> + Drop,
         requires can { CanRun (W.course work plan.now) }
+        requires made { W.made_for work plan.now }
         requires sizes { (team ≡ (W.course work plan.now).team) × (count ≡ (W.course work plan.now).count) }
         requires opening { opening ≡ (W.course work plan.now).opening }
         ensures holds { IfOk result (λ r. Holds (W.course r.work plan.now) r.state r.pending (W.entered r.work) (W.ready r.work plan.now)) }

@@ -27,7 +27,11 @@ impl UnitWork<Shift> for Copies {
 
     ghost entered = { λ w. w.entered };
 
+    ghost made_for = { λ w p. Unit {0} };
+
     ghost ready = { λ w p. w.entered < 2 };
+
+    ghost stays_made = { λ w p r. tt };
 
     fn enter(&mut self, _plan: &Shift, phase: u64, _cells: &[u64]) {
         self.entered = phase;
