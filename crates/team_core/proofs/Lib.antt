@@ -11,3 +11,5 @@ pub mod Teams
 pub mod Machines
 pub mod Choices
 pub mod Sizes
+pub mod Scratches
+pub mod Rehearsals

@@ -4,3 +4,4 @@ pub mod Runs
 pub mod Laws
 pub mod Machines
 pub mod Copies
+pub mod Scratches

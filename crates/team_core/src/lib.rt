@@ -6,6 +6,8 @@
 pub mod laws;
 mod machine;
 mod member;
+mod rehearsal;
+mod scratch;
 mod state;
 mod steps;
 #[cfg(test)]
