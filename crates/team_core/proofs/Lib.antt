@@ -13,3 +13,6 @@ pub mod Choices
 pub mod Sizes
 pub mod Scratches
 pub mod Rehearsals
+pub mod Entering
+pub mod Lengths
+pub mod Cores

@@ -53,7 +53,7 @@ append_nil [] = refl
 append_nil (x ∷ xs) = ap (λ (l : List _). x ∷ l) (append_nil xs)
 
 module _ (k : Search) (p : Phase) (s : Scratch) (chunk count strand registers : ℕ) (is : k ≡ search_of p s.cells chunk strand s.wanted) (can : CanTry p s.cells chunk count registers) (rounds : InRounds s.cells s.round)
-  (fresh : IsFresh s s.wanted) (there : strand < strands p (openings s.cells) chunk) where
+    (fresh : IsFresh s s.wanted) (there : strand < strands p (openings s.cells) chunk) where
   pub begun : IsSearching k s
   begun = subst (λ (x : Search). IsSearching x s) (sym is) (record {
     wanted_is = refl;
@@ -63,7 +63,7 @@ module _ (k : Search) (p : Phase) (s : Scratch) (chunk count strand registers : 
     few = (let l = strand_few p (openings s.cells) chunk strand can.well in omega (arith, l));
     seen_few = (let z = fresh.none_seen in omega (arith, z));
     found_is = ap as_option fresh.none_found ∙ sym (ap (λ (n : ℕ). cond (ltb s.wanted n) (get_elem? (strand_effects p (openings s.cells) chunk strand) s.wanted) none) fresh.none_seen
-    ∙ ap (λ (b : Bool). cond b (get_elem? (strand_effects p (openings s.cells) chunk strand) s.wanted) none) (le-ltb s.wanted 0 (omega arith)));
+        ∙ ap (λ (b : Bool). cond b (get_elem? (strand_effects p (openings s.cells) chunk strand) s.wanted) none) (le-ltb s.wanted 0 (omega arith)));
   })
 
   pub begins : Begins (record { left = drop s.seen k.effects; cells = seen_cells s; may = k.may }) p chunk strand []

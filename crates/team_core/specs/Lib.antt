@@ -5,3 +5,5 @@ pub mod Laws
 pub mod Machines
 pub mod Copies
 pub mod Scratches
+pub mod Units
+pub mod Cores
