@@ -16,3 +16,4 @@ pub mod Rehearsals
 pub mod Entering
 pub mod Lengths
 pub mod Cores
+pub mod Shifts
