@@ -17,3 +17,4 @@ pub mod Entering
 pub mod Lengths
 pub mod Cores
 pub mod Shifts
+pub mod Places

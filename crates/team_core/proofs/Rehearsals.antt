@@ -1,5 +1,5 @@
 -- A strand that is tried over a copy of the cells.
-use Rattle.std.proofs.Common.{◌≡◌, ◌⊎◌, ℕ, zero, suc, ◌+◌, ◌-◌, ◌<◌, ◌≤◌, ltb, eqb, cond, Bool, true, false, List, [], ◌∷◌, ◌++◌, map, length, drop, sym, refl, ap, ◌∙◌, subst, arith}
+use Rattle.std.proofs.Common.{◌≡◌, ◌⊎◌, ℕ, zero, suc, ◌+◌, ◌-◌, ◌<◌, ◌≤◌, ltb, eqb, cond, Bool, true, false, List, [], ◌∷◌, ◌++◌, map, length, length-append, drop, sym, refl, ap, ◌∙◌, subst, arith}
 use Rattle.std.specs.Prelude as std
 use Rattle.std.specs.Option.{is_some}
 use Rattle.std.proofs.lemmas.List.{length-map}
@@ -11,12 +11,14 @@ use Rattle.phase_ops.specs.declared.phase.Phase.{Phase}
 use Rattle.phase_ops.specs.declared.phase.Phase.TheVariants.{Set, Loop, Part, Join}
 use Rattle.phase_ops.specs.Phases.{Cells, each_from, strands, strand_effects, reads}
 use Rattle.phase_ops.specs.Free.{In, stored, lessened, WellFormed}
+use Rattle.phase_ops.proofs.Courses.{each_snoc}
+use Rattle.act_eval.proofs.Fitting.{each_split}
 use Rattle.act_eval.specs.Sites.{View}
 use Rattle.act_eval.specs.Strands.{Begins, TakesAll}
 use Rattle.team_core.specs.Machines.{as_option}
 use Rattle.team_core.specs.declared.scratch.ScratchCell.{ScratchCell}
 use Rattle.team_core.specs.declared.scratch.Scratch.{Scratch}
-use Rattle.team_core.specs.Scratches.{openings, seen_cells, InRounds, IsFresh, Search, IsSearching, search_of, CanTry}
+use Rattle.team_core.specs.Scratches.{openings, seen_cells, InRounds, IsFresh, Search, IsSearching, search_of, CanTry, IsReached}
 use Rattle.team_core.proofs.Sizes.{strand_few}
 use Rattle.team_core.proofs.Scratches.{next_effect, none_left, found_next, found_all, in_first, in_second}
 
@@ -93,11 +95,19 @@ ended k s b left =
 
 -- ---- strands in a row
 
-pub open_each : (f : ℕ → List Effect) (first count at : ℕ) → at < count → each_from f (first + at) (count - at) ≡ f (first + at) ++ each_from f (first + (at + 1)) (count - (at + 1))
-open_each f first count at h =
-    let n : count - at ≡ suc (count - (at + 1)) = omega (arith, h) in
-    let m : suc (first + at) ≡ first + (at + 1) = omega arith in
-    ap (λ (k : ℕ). each_from f (first + at) k) n ∙ ap (λ (k : ℕ). f (first + at) ++ each_from f k (count - (at + 1))) m
+pub open_each : (f : ℕ → List Effect) (strand end : ℕ) → strand < end → each_from f strand (end - strand) ≡ f strand ++ each_from f (strand + 1) (end - (strand + 1))
+open_each f strand end h =
+    let n : end - strand ≡ suc (end - (strand + 1)) = omega (arith, h) in
+    let m : suc strand ≡ strand + 1 = omega arith in
+    ap (λ (k : ℕ). each_from f strand k) n ∙ ap (λ (k : ℕ). f strand ++ each_from f k (end - (strand + 1))) m
+
+-- one strand more is behind
+pub more_behind : (f : ℕ → List Effect) (first strand n : ℕ) → first ≤ strand → n ≡ length (f strand) → length (each_from f first (strand + 1 - first)) ≡ length (each_from f first (strand - first)) + n
+more_behind f first strand n l e =
+    let k : strand + 1 - first ≡ suc (strand - first) = omega (arith, l) in
+    let at : first + (strand - first) ≡ strand = omega (arith, l) in
+    ap (λ (x : ℕ). length (each_from f first x)) k ∙ ap length (each_snoc f first (strand - first)) ∙ length-append (each_from f first (strand - first)) (f (first + (strand - first)))
+    ∙ ap (λ (x : ℕ). length (each_from f first (strand - first)) + x) (ap (λ (x : ℕ). length (f x)) at ∙ sym e)
 
 pub found_here : (o : std.Option Effect) (xs ys : List Effect) (n : ℕ) → is_some o ≡ true → as_option o ≡ get_elem? xs n → as_option o ≡ get_elem? (xs ++ ys) n
 found_here (std.Some e) xs ys n some is = sym (in_first xs ys n e (sym is))
@@ -106,3 +116,35 @@ found_here std.None xs ys n some is = cc
 pub found_later : (o : std.Option Effect) (xs ys : List Effect) (n : ℕ) → is_some o ≡ false → as_option o ≡ get_elem? xs n → (length xs ≤ n) × (get_elem? (xs ++ ys) n ≡ get_elem? ys (n - length xs))
 found_later (std.Some e) xs ys n some is = cc
 found_later std.None xs ys n some is = in_second xs ys n (sym is)
+
+-- ---- from a place on
+
+get_behind : (xs ys : List Effect) (n : ℕ) → length xs ≤ n → get_elem? (xs ++ ys) n ≡ get_elem? ys (n - length xs)
+get_behind [] ys n h = ap (λ (k : ℕ). get_elem? ys k) (let e : n ≡ n - 0 = omega arith in e)
+get_behind (x ∷ xs) ys zero h = absurd (omega (arith, h))
+get_behind (x ∷ xs) ys (suc n) h = get_behind xs ys n (omega (arith, h)) ∙ ap (λ (k : ℕ). get_elem? ys k) (let e : n - length xs ≡ suc n - suc (length xs) = omega arith in e)
+
+each_at : (f : ℕ → List Effect) (first strand end : ℕ) → first ≤ strand → strand ≤ end → each_from f first (end - first) ≡ each_from f first (strand - first) ++ each_from f strand (end - strand)
+each_at f first strand end l h =
+    ap (λ (n : ℕ). each_from f first n) (let e : end - first ≡ (strand - first) + (end - strand) = omega (arith, l, h) in e) ∙ each_split f first (strand - first) (end - strand)
+    ∙ ap (λ (n : ℕ). each_from f first (strand - first) ++ each_from f n (end - strand)) (let e : first + (strand - first) ≡ strand = omega (arith, l) in e)
+
+-- what is looked for from a place on is what the unit makes
+pub from_place : (f : ℕ → List Effect) (first end strand before done : ℕ) → IsReached f first end strand before → before ≤ done → get_elem? (each_from f strand (end - strand)) (done - before) ≡ get_elem? (each_from f first (end - first)) done
+from_place f first end strand before done r l =
+    let b = r.before_is in
+    ap (λ (n : ℕ). get_elem? (each_from f strand (end - strand)) (done - n)) r.before_is
+    ∙ sym (ap (λ (es : List Effect). get_elem? es done) (each_at f first strand end r.low r.high) ∙ get_behind (each_from f first (strand - first)) (each_from f strand (end - strand)) done (omega (arith, b, l)))
+
+-- a place reached from another
+pub reached_on : (f : ℕ → List Effect) (first end strand before strand' before' : ℕ) → IsReached f first end strand before → IsReached f strand end strand' before' → IsReached f first end strand' (before + before')
+reached_on f first end strand before strand' before' r q =
+    let l = r.low in let m = q.low in
+    record {
+      low = omega (arith, l, m);
+      high = q.high;
+      before_is = (λ i. r.before_is i + q.before_is i) ∙ sym (ap length (each_at f first strand strand' r.low q.low) ∙ length-append (each_from f first (strand - first)) (each_from f strand (strand' - strand)));
+    }
+
+pub reached_first : (f : ℕ → List Effect) (first end : ℕ) → first ≤ end → IsReached f first end first 0
+reached_first f first end h = record { low = omega arith; high = h; before_is = ap (λ (n : ℕ). length (each_from f first n)) (let e : 0 ≡ first - first = omega arith in e) }

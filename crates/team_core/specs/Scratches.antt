@@ -1,11 +1,11 @@
 -- A copy of the cells, as it was when its phase began and as a strand sees it.
-use Rattle.std.specs.Prelude.{◌≡◌, ℕ, suc, ltb, ◌<◌, ◌≤◌, eqb, cond, List, map, length, slice_index_or}
+use Rattle.std.specs.Prelude.{◌≡◌, ℕ, suc, ◌-◌, ltb, ◌<◌, ◌≤◌, eqb, cond, List, map, length, slice_index_or}
 use Rattle.std.specs.Prelude as std
 use mathlib.Core.Option.{none}
 use lib.ListN.{get_elem?}
 use Rattle.phase_ops.specs.declared.effect.Effect.{Effect}
 use Rattle.phase_ops.specs.declared.phase.Phase.{Phase}
-use Rattle.phase_ops.specs.Phases.{Cells, strand_effects, reads, natural}
+use Rattle.phase_ops.specs.Phases.{Cells, each_from, strand_effects, reads, natural}
 use Rattle.phase_ops.specs.Free.{In, WellFormed, count_value}
 use Rattle.act_eval.specs.Strands.{PartialsFit, HasRoom, AreChunks}
 use Rattle.team_core.specs.declared.scratch.ScratchCell.{ScratchCell}
@@ -72,3 +72,9 @@ pub record CanTry (p : Phase) (cells : List ScratchCell) (chunk count registers 
   pub count_is : count ≡ natural (count_value p (openings cells))
   pub well : WellFormed p (openings cells) chunk
   pub partials : PartialsFit p (openings cells) chunk
+
+-- one of the strands from `first` on, or their end, and how many effects those before it have
+pub record IsReached (f : ℕ → List Effect) (first end strand before : ℕ) : Type 0 where
+  pub low : first ≤ strand
+  pub high : strand ≤ end
+  pub before_is : before ≡ length (each_from f first (strand - first))

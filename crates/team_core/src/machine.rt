@@ -42,9 +42,10 @@ pub trait UnitWork<P> {
         requires { ready self.now plan.now }
         ensures { result ≡ (work_at (course self.now plan.now) (entered self.now)).units };
 
-    /// The next effect of the unit, of which so many are done, or none.
-    fn effect(&mut self, plan: &P, unit: u64, done: u64) -> Option<Effect>
+    /// The next effect of the member's unit, of which so many are done, or none.
+    fn effect(&mut self, plan: &P, member: usize, unit: u64, done: u64) -> Option<Effect>
         requires ready { ready self.old plan.now }
+        requires member { member < (course self.old plan.now).team }
         requires unit { unit < (work_at (course self.old plan.now) (entered self.old)).units }
         ensures value { as_option result ≡ get_elem? ((work_at (course self.old plan.now) (entered self.old)).effects unit) done }
         ensures course { course self.new plan.now ≡ course self.old plan.now }
@@ -164,7 +165,7 @@ impl<W> Machine<W> {
         ensures same { (self.new.team ≡ self.old.team) × (self.new.count ≡ self.old.count) }
     {
         if let MemberState::Within { unit, done } = self.state.members.as_slice()[member].state {
-            let next = self.work.effect(plan, unit, done);
+            let next = self.work.effect(plan, member, unit, done);
             self.pending.set(member, next);
         }
     }

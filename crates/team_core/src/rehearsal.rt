@@ -1,13 +1,13 @@
 //! A strand that is tried over a copy of the cells.
 
-ghost use Rattle.std.specs.Prelude.{◌≡◌, ◌+◌, ◌<◌, ◌≤◌, length, slice_index, ◌∷◌, List};
+ghost use Rattle.std.specs.Prelude.{◌≡◌, ◌-◌, ◌<◌, ◌≤◌, length, slice_index, ◌∷◌, List};
 ghost use lib.ListN.{get_elem?};
 ghost use Rattle.phase_ops.specs.declared.effect.Effect.{Effect};
 ghost use Rattle.phase_ops.specs.Phases.{each_from, over, strands, strand_effects};
 ghost use Rattle.phase_ops.specs.Free.{In};
 ghost use Rattle.act_eval.specs.Sites.{Small};
 ghost use Rattle.team_core.specs.Machines.{as_option};
-ghost use Rattle.team_core.specs.Scratches.{openings, InRounds, IsFresh, CanTry, search_of};
+ghost use Rattle.team_core.specs.Scratches.{openings, InRounds, IsFresh, CanTry, IsReached, search_of};
 
 use crate::scratch::Scratch;
 use act_eval::{Chunks, Site, run_strand};
@@ -73,33 +73,50 @@ fn try_strand<K: Searched>(
     run_strand(&site, scratch, phase, chunks, strand, registers);
 }
 
-/// The effect of the number `done` among those of some strands in a row.
+/// An effect, the strand that makes it, and how many effects the strands before that one make.
+#[derive(Clone, Copy)]
+pub struct Found {
+    pub effect: Option<Effect>,
+    pub strand: u32,
+    pub before: u64,
+}
+
+/// The effect of the number `done` among those of the strands from `first` on and before `end`.
 pub fn find_effect(
     scratch: &mut Scratch,
     phase: &Phase,
     chunks: Chunks,
     first: u32,
-    count: u32,
+    end: u32,
     done: u64,
     registers: &mut [i64],
-) -> Option<Effect>
+) -> Found
     requires can { CanTry phase.now scratch.old.cells chunks.chunk chunks.count (length registers.old) }
     requires rounds { InRounds scratch.old.cells scratch.old.round }
-    requires there { first + count ≤ strands phase.now (openings scratch.old.cells) chunks.chunk }
-    requires small { first + count < 4294967296 }
-    ensures value { as_option result ≡ get_elem? (each_from (strand_effects phase.now (openings scratch.old.cells) chunks.chunk) first count) done }
+    requires there { (first ≤ end) × (end ≤ strands phase.now (openings scratch.old.cells) chunks.chunk) }
+    ensures value { as_option result.effect ≡ get_elem? (each_from (strand_effects phase.now (openings scratch.old.cells) chunks.chunk) first (end - first)) done }
+    ensures place { IsReached (strand_effects phase.now (openings scratch.old.cells) chunks.chunk) first end result.strand result.before }
+    ensures few { result.before ≤ done }
     ensures opening { openings scratch.new.cells ≡ openings scratch.old.cells }
     ensures rounds { InRounds scratch.new.cells scratch.new.round }
     ensures long { length registers.new ≡ length registers.old }
 {
     let mut left = done;
-    for at in 0..count {
+    for strand in first..end {
         scratch.begin(left);
-        try_strand::<Brand>(scratch, phase, chunks, first + at, registers);
+        try_strand::<Brand>(scratch, phase, chunks, strand, registers);
         if scratch.found.is_some() {
-            return scratch.found;
+            return Found {
+                effect: scratch.found,
+                strand,
+                before: done - left,
+            };
         }
         left -= scratch.seen;
     }
-    None
+    Found {
+        effect: None,
+        strand: end,
+        before: done - left,
+    }
 }

@@ -9,7 +9,7 @@ ghost use Rattle.phase_ops.specs.Free.{In, acts_of, count_value};
 ghost use Rattle.act_eval.specs.Strands.{AreChunks};
 ghost use Rattle.team_core.specs.Machines.{as_option, Enters};
 ghost use Rattle.team_core.specs.Laws.{MayStart, phase_at};
-ghost use Rattle.team_core.specs.Units.{HasCount, HasNumber, IsMadeFor, AreShort};
+ghost use Rattle.team_core.specs.Units.{HasCount, HasNumber, IsMadeFor, IsPlaceOf, AreShort, nowhere};
 
 use crate::machine::UnitWork;
 use crate::rehearsal::find_effect;
@@ -17,6 +17,7 @@ use crate::scratch::Scratch;
 use crate::state::CellList;
 use act_eval::Chunks;
 use phase_ops::{Act, Effect, Phase, PhaseList, Source};
+use sqlite_items::Items;
 use std::alloc::{AllocError, Global};
 
 /// The length of the longest of these acts, or `least` where that is greater.
@@ -101,6 +102,17 @@ fn strands_of(phase: &Phase, chunks: Chunks, unit: u32) -> (u32, u32)
     }
 }
 
+/// How far the effects of a unit were looked through: the strands of the unit before this one make so many.
+#[derive(Clone, Copy)]
+pub struct Place {
+    pub phase: u64,
+    pub unit: u64,
+    pub strand: u32,
+    pub before: u64,
+}
+
+pub type PlaceList = Items<Place>;
+
 /// The units of the phase that was entered. The effects of a unit are those of its strands over the cells at the phase's
 /// start, whatever the team has done since.
 #[derive(Drop)]
@@ -113,6 +125,8 @@ pub struct PhaseUnits {
     pub count: u32,
     pub scratch: Scratch,
     pub registers: Vec<i64>,
+    /// For each member, where the effect was that it was told last.
+    pub places: PlaceList,
 }
 
 impl PhaseUnits {
@@ -129,6 +143,13 @@ impl PhaseUnits {
     {
         let registers = vec![in alloc; 0; longest(phases.as_slice())]?;
         let scratch = Scratch::new(alloc, opening.len())?;
+        let nowhere = Place {
+            phase: 0,
+            unit: 0,
+            strand: 0,
+            before: 0,
+        };
+        let places = PlaceList::from_vec(vec![in alloc; nowhere; team as usize]?);
         let opening = CellList::from_slice(alloc, opening.as_slice())?;
         Ok(PhaseUnits {
             opening,
@@ -138,6 +159,7 @@ impl PhaseUnits {
             count: 0,
             scratch,
             registers,
+            places,
         })
     }
 
@@ -147,6 +169,24 @@ impl PhaseUnits {
         Chunks {
             count: self.count,
             chunk: self.chunk,
+        }
+    }
+
+    /// Where to look for an effect of the member's unit, whose first strand is this: where the last one was, if it was of this
+    /// unit and none behind it is looked for.
+    fn place_of(&self, member: usize, unit: u64, done: u64, first: u32) -> Place
+        requires { member < length self.now.places }
+        ensures { IsPlaceOf (slice_index_or self.now.places member nowhere) self.now.phase unit done first result }
+    {
+        let last = self.places.as_slice()[member];
+        if last.phase == self.phase && last.unit == unit && last.before <= done {
+            return last;
+        }
+        Place {
+            phase: self.phase,
+            unit,
+            strand: first,
+            before: 0,
         }
     }
 }
@@ -175,18 +215,33 @@ impl UnitWork<PhaseList> for PhaseUnits {
         units_of(&phases.as_slice()[self.phase as usize], self.chunks())
     }
 
-    fn effect(&mut self, phases: &PhaseList, unit: u64, done: u64) -> Option<Effect> {
+    fn effect(
+        &mut self,
+        phases: &PhaseList,
+        member: usize,
+        unit: u64,
+        done: u64,
+    ) -> Option<Effect> {
         let phase = &phases.as_slice()[self.phase as usize];
         let chunks = self.chunks();
         let (first, count) = strands_of(phase, chunks, unit as u32);
-        find_effect(
+        let last = self.place_of(member, unit, done, first);
+        let found = find_effect(
             &mut self.scratch,
             phase,
             chunks,
-            first,
-            count,
-            done,
+            last.strand,
+            first + count,
+            done - last.before,
             self.registers.as_mut_slice(),
-        )
+        );
+        let place = Place {
+            phase: self.phase,
+            unit,
+            strand: found.strand,
+            before: last.before + found.before,
+        };
+        self.places.set(member, place);
+        found.effect
     }
 }

@@ -35,7 +35,7 @@ returns-clause-ready c =
     let there = e.there in
     let long : length c.open.new.self.cells ≡ length w.opening = sym (opening_long c.open.new.self.cells) ∙ ap length opened ∙ ap length e.cells_are ∙ memory_long c.args.phases.now w.opening w.chunk w.team c.args.phase (omega (arith, there)) in
     record {
-      made = record { may = c.requires.made.may; long = long; short = c.requires.made.short };
+      made = record { may = c.requires.made.may; long = long; placed = c.requires.made.placed; places = c.requires.made.places; short = c.requires.made.short };
       there = e.there;
       opening_is = opened ∙ e.cells_are;
       small = c.open.ensures.small;
