@@ -1,12 +1,12 @@
 -- The partial of few values fits a word of 64 bits.
 use Rattle.std.proofs.Common.{◌≡◌, inl, inr, ℕ, zero, suc, ◌+◌, ◌-◌, ◌*◌, ◌<◌, ◌≤◌, Bool, true, false, List, [], ◌∷◌, ◌++◌, map, length, length-append, sym, refl, ap, ◌∙◌, subst, arith, ℤ, pos, negsuc, ◌+ℤ◌, ◌*ℤ◌, ◌≤ℤ◌, FitsSigned}
-use Rattle.std.specs.Prelude.{IsTrue, if◌then◌else◌, int_le, nat_lt}
+use Rattle.std.specs.Prelude.{IsTrue, if◌then◌else◌, int_le}
 use Rattle.std.specs.Int.{w64}
 use Rattle.std.proofs.lemmas.Int.{ints, fits_signed_from_abs}
 use Rattle.std.proofs.lemmas.List.{append_assoc}
 use Rattle.std.proofs.lemmas.Bool.Decides.{nat_tests}
 use Rattle.std.proofs.Math.Nat.{suc-mul}
-use Rattle.ws_base.specs.Numbers.{default_half, in_range, truth, is_true, int_min, int_max}
+use Rattle.ws_base.specs.Numbers.{default_half, in_range, truth, is_true, int_max}
 use Rattle.ws_base.specs.declared.op.CallWord.{CallWord}
 use Rattle.ws_base.specs.declared.op.CallWord.TheVariants as word
 use Rattle.phase_ops.specs.Partials.{clamp, unit_part, part_of, merge, merged, takes}
@@ -14,7 +14,7 @@ use Rattle.phase_ops.specs.declared.effect.Turn.{Turn}
 use Rattle.phase_ops.specs.declared.effect.Turn.TheVariants.{Next, Shut, Fails, Does}
 use Rattle.phase_ops.specs.declared.phase.Micro.{Micro}
 use Rattle.phase_ops.specs.declared.phase.Act.{Act}
-use Rattle.phase_ops.specs.Phases.{Cells, over, looks, divisors, turn, Spot, Event, Gives, spot, plain, went, ops_events, gives, calm, last_event, value_events, each_from}
+use Rattle.phase_ops.specs.Phases.{Cells, over, looks, divisors, turn, Spot, Event, spot, went, ops_events, gives, calm, last_event, value_events, each_from}
 use Rattle.phase_ops.specs.Free.{In}
 use Rattle.phase_ops.proofs.Members.{in_right}
 use Rattle.act_eval.specs.Sites.{part_given}

@@ -1,6 +1,6 @@
 -- What a Part leaves in its cells: where no iteration fails, the partial of each unit, so that the Join behind it may merge them.
-use Rattle.std.proofs.Common.{◌≡◌, ◌⊎◌, inl, inr, ℕ, zero, suc, ◌+◌, ◌-◌, ◌*◌, ◌/◌, ◌<◌, ◌≤◌, Bool, true, false, List, [], ◌∷◌, ◌++◌, map, length, length-set, set, slice_index, get_or-set_same, sym, refl, ap, ◌∙◌, subst, arith, ℤ, pos, negsuc, ◌≤ℤ◌, FitsSigned}
-use Rattle.std.specs.Prelude.{IsTrue, if◌then◌else◌, nat_lt}
+use Rattle.std.proofs.Common.{◌≡◌, ◌⊎◌, inl, inr, ℕ, zero, suc, ◌+◌, ◌-◌, ◌*◌, ◌<◌, ◌≤◌, Bool, true, false, List, [], ◌∷◌, ◌++◌, map, length, length-set, set, slice_index, get_or-set_same, sym, refl, ap, ◌∙◌, subst, arith, ℤ, pos, negsuc, ◌≤ℤ◌}
+use Rattle.std.specs.Prelude.{if◌then◌else◌, nat_lt}
 use Rattle.std.specs.Int.{w64, cast_signed}
 use Rattle.std.proofs.lemmas.Int.{ints, to_z-of_z}
 use Rattle.std.proofs.lemmas.Bool.Decides.{nat_tests}
@@ -9,16 +9,16 @@ use mathlib.Core.Logic.{dite}
 use native.Mathlib.Decide.{ℕ_discrete}
 use Rattle.ws_base.specs.Numbers.{default_half}
 use Rattle.ws_base.specs.declared.op.CallWord.{CallWord}
-use Rattle.phase_ops.specs.Partials.{part_of, merged, takes}
+use Rattle.phase_ops.specs.Partials.{merged}
 use Rattle.phase_ops.specs.declared.effect.Effect.{Effect}
-use Rattle.phase_ops.specs.declared.effect.Effect.TheVariants.{Store, Least, Fault}
+use Rattle.phase_ops.specs.declared.effect.Effect.TheVariants.{Store, Fault}
 use Rattle.phase_ops.specs.declared.phase.Source.{Source}
 use Rattle.phase_ops.specs.declared.phase.Act.{Act}
 use Rattle.phase_ops.specs.declared.phase.Phase.{Phase}
 use Rattle.phase_ops.specs.declared.phase.Phase.TheVariants.{Part, Join}
-use Rattle.phase_ops.specs.Phases.{Cells, cell_value, word, source, natural, over, lay, pieces, unit_size, partial_cells, Event, each_from, makes, gives, least_key, none_yet, strand_events, strand_effects, summed, phase_effects, after_phase, key, units, effects, parameter, strands}
+use Rattle.phase_ops.specs.Phases.{Cells, cell_value, word, source, natural, lay, pieces, unit_size, partial_cells, Event, each_from, makes, gives, least_key, none_yet, strand_events, strand_effects, phase_effects, after_phase, key, effects, parameter}
 use Rattle.phase_ops.specs.Free.{In, stored, lessened, WellFormed, Apart, IsChunk}
-use Rattle.phase_ops.proofs.Members.{in_left, from_each, to_each}
+use Rattle.phase_ops.proofs.Members.{in_left, to_each}
 use Rattle.phase_ops.proofs.Frame.{source_same}
 use Rattle.phase_ops.proofs.Strands.{lay_length, lay_quiet, from_stored, from_lessened}
 use Rattle.phase_ops.proofs.Keys.{least_below}

@@ -1,5 +1,5 @@
 -- A strand of each kind of phase.
-use Rattle.std.proofs.Common.{◌≡◌, inl, inr, ℕ, zero, suc, ◌+◌, ◌*◌, ◌-◌, ◌/◌, ◌<◌, ◌≤◌, List, [], ◌∷◌, ◌++◌, map, length, slice_index_or, sym, refl, ap, ◌∙◌, subst, arith, ℤ}
+use Rattle.std.proofs.Common.{◌≡◌, inl, inr, ℕ, zero, suc, ◌+◌, ◌*◌, ◌<◌, ◌≤◌, List, [], ◌∷◌, ◌++◌, map, length, slice_index_or, sym, refl, ap, ◌∙◌, subst, arith, ℤ}
 use Rattle.ws_base.specs.declared.op.CallWord.{CallWord}
 use Rattle.phase_ops.specs.declared.effect.Effect.{Effect}
 use Rattle.phase_ops.specs.declared.phase.Source.{Source}
@@ -7,12 +7,12 @@ use Rattle.phase_ops.specs.declared.phase.Label.{Label}
 use Rattle.phase_ops.specs.declared.phase.Act.{Act}
 use Rattle.phase_ops.specs.declared.phase.Phase.{Phase}
 use Rattle.phase_ops.specs.declared.phase.Phase.TheVariants.{Set, Loop, Part, Join}
-use Rattle.phase_ops.specs.Phases.{Cells, Event, Loads, Divides, Makes, Gives, acts_events, value_events, each_from, loads, makes, divides, natural, source, pieces, unit_size, partial_cells}
+use Rattle.phase_ops.specs.Phases.{Event, Loads, Divides, Makes, Gives, acts_events, value_events, each_from, loads, makes, divides, natural, source, pieces, unit_size, partial_cells}
 use Rattle.phase_ops.specs.Free.{In, acts_of}
 use Rattle.phase_ops.proofs.Members.{in_left, in_right, to_each}
 use Rattle.phase_ops.proofs.Strands.{loads_append}
-use Rattle.act_eval.specs.Sites.{View, Small, Comes, MayLook}
-use Rattle.act_eval.specs.Strands.{Begins, HasRoom, HasStrand, AreChunks, PartBegins, JoinBegins}
+use Rattle.act_eval.specs.Sites.{View, Comes, MayLook}
+use Rattle.act_eval.specs.Strands.{Begins, HasRoom, HasStrand, PartBegins, JoinBegins}
 use Rattle.act_eval.proofs.Fitting.{part_fits}
 
 -- ---- what a part of some events may look at

@@ -27,9 +27,6 @@ pub record Left (may : List ℕ) (whole es : List Event) : Type 0 where
   pub gives_are : gives whole ≡ gives es
   pub look : MayLook may es
 
-pub left_all : (may : List ℕ) (es : List Event) → MayLook may es → Left may es es
-left_all may es h = record { makes_are = refl; gives_are = refl; look = h }
-
 -- no op of a Part has an effect
 is_done : Turn → Type 0
 is_done (Does e) = Unit {0}

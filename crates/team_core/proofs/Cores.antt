@@ -2,7 +2,7 @@
 use Rattle.std.specs.Prelude as std
 use Rattle.std.specs.Prelude.{Result, Ok, Err, MatchResult}
 use Rattle.std.proofs.Common.{◌≡◌, ◌≢◌, ◌⊎◌, ⊎_elim, ℕ, suc, ◌<◌, Bool, true, false, List, length, slice_index_or, sym, refl, ap, ◌∙◌, subst, arith}
-use mathlib.Core.Option.{none, some, some-ne-none}
+use mathlib.Core.Option.{none, some-ne-none}
 use Rattle.phase_ops.specs.declared.effect.Effect.{Effect}
 use Rattle.phase_ops.specs.declared.effect.Effect.TheVariants.{Store, Least, Fault}
 use Rattle.phase_ops.specs.declared.phase.Phase.{Phase}
@@ -21,7 +21,7 @@ use Rattle.team_core.specs.declared.team.Core.{Core}
 use Rattle.team_core.specs.Core.{Sound, member_of, counts_at, IsPlaced, claims, acts, finishes, arrives, sees, judges}
 use Rattle.team_core.specs.Runs.{stepped, IsSafeStore}
 use Rattle.team_core.specs.Machines.{Holds, allowed, is_look, next_kind, Did}
-use Rattle.team_core.specs.Laws.{MayStart, Closing}
+use Rattle.team_core.specs.Laws.{MayStart}
 use Rattle.team_core.specs.Units.{IsEntered}
 use Rattle.team_core.specs.Cores.{state_of, opening_of, team_of, chunk_of, course_of, units_course, IsCore, IsSameRun, Steps, IsNext, ClosesWhenEnded}
 use Rattle.team_core.proofs.Fronts.{untrue}

@@ -1,13 +1,13 @@
 -- What is known of a phase when it is entered.
 use Rattle.std.specs.Prelude.{Option, Some, None}
-use Rattle.std.proofs.Common.{◌≡◌, ℕ, zero, suc, ◌<◌, List, [], ◌∷◌, length, sym, refl, ap, ◌∙◌, subst, arith}
+use Rattle.std.proofs.Common.{◌≡◌, ℕ, zero, suc, ◌<◌, List, [], ◌∷◌, length, sym, refl, ◌∙◌, subst, arith}
 use Rattle.ws_base.specs.declared.op.CallWord.{CallWord}
 use Rattle.phase_ops.specs.declared.phase.Source.{Source}
 use Rattle.phase_ops.specs.declared.phase.Phase.{Phase}
 use Rattle.phase_ops.specs.declared.phase.Phase.TheVariants.{Set, Loop, Part, Join}
 use Rattle.phase_ops.specs.Phases.{Cells, after_phase, after, key, none_yet}
 use Rattle.phase_ops.specs.Free.{WellFormed, FreeFrom, Free, Agrees, IsChunk}
-use Rattle.phase_ops.specs.Course.{course, memory_after, key_at}
+use Rattle.phase_ops.specs.Course.{course}
 use Rattle.phase_ops.proofs.Courses.{memory_is, key_is}
 use Rattle.act_eval.specs.Strands.{PartialsFit}
 use Rattle.act_eval.proofs.Joining.{join_fits}

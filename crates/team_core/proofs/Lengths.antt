@@ -1,5 +1,5 @@
 -- Acts, counts and cells of the phases that a team runs.
-use Rattle.std.proofs.Common.{◌≡◌, ◌⊎◌, inl, inr, ℕ, zero, suc, ◌<◌, ◌≤◌, List, [], ◌∷◌, length, get_or, sym, refl, ap, ◌∙◌, subst, arith, ℤ, pos, ◌≤ℤ◌}
+use Rattle.std.proofs.Common.{◌≡◌, inl, inr, ℕ, zero, suc, ◌<◌, ◌≤◌, List, [], ◌∷◌, length, get_or, sym, refl, ap, ◌∙◌, subst, arith, ℤ, pos, ◌≤ℤ◌}
 use Rattle.phase_ops.specs.declared.phase.Source.{Source}
 use Rattle.phase_ops.specs.declared.phase.Act.{Act}
 use Rattle.phase_ops.specs.declared.phase.Phase.{Phase}

@@ -1,6 +1,6 @@
 -- Where the effects of a unit were looked through.
 use Rattle.std.specs.Prelude as std
-use Rattle.std.proofs.Common.{◌≡◌, ◌≢◌, ◌⊎◌, ⊎_elim, ℕ, ◌+◌, ◌-◌, ◌<◌, ◌≤◌, List, length, get_or, set, length-set, get_or-set_same, get_or-set_other, sym, refl, ap, ◌∙◌, subst, arith}
+use Rattle.std.proofs.Common.{◌≡◌, ⊎_elim, ℕ, ◌+◌, ◌-◌, ◌<◌, ◌≤◌, List, length, get_or, set, length-set, get_or-set_same, get_or-set_other, sym, ap, ◌∙◌, subst, arith}
 use mathlib.Core.Logic.{dite}
 use native.Mathlib.Decide.{ℕ_discrete}
 use lib.ListN.{get_elem?}
@@ -8,14 +8,12 @@ use Rattle.phase_ops.specs.declared.effect.Effect.{Effect}
 use Rattle.phase_ops.specs.declared.phase.Phase.{Phase}
 use Rattle.phase_ops.specs.Phases.{Cells, each_from, strand_effects, effects, first_strand, strand_count, natural}
 use Rattle.phase_ops.specs.Free.{WellFormed, count_value}
-use Rattle.phase_ops.specs.Course.{Course, course, memory_after}
+use Rattle.phase_ops.specs.Course.{course, memory_after}
 use Rattle.act_eval.specs.Strands.{PartialsFit, AreChunks}
 use Rattle.team_core.specs.Machines.{as_option}
 use Rattle.team_core.specs.Laws.{MayStart, phase_at}
 use Rattle.team_core.specs.Scratches.{openings, InRounds, IsReached}
-use Rattle.team_core.specs.Units.{nowhere, IsPlaceOf, IsPlace, ArePlaces, IsMadeFor, IsEntered}
-use Rattle.team_core.specs.declared.scratch.ScratchCell.{ScratchCell}
-use Rattle.team_core.specs.declared.scratch.Scratch.{Scratch}
+use Rattle.team_core.specs.Units.{nowhere, IsPlaceOf, IsPlace, ArePlaces, IsEntered}
 use Rattle.team_core.specs.declared.units.Place.{Place}
 use Rattle.team_core.specs.declared.units.PhaseUnits.{PhaseUnits}
 use Rattle.team_core.proofs.Rehearsals.{same_long, from_place, reached_on, reached_first}

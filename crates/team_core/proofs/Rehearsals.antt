@@ -1,5 +1,5 @@
 -- A strand that is tried over a copy of the cells.
-use Rattle.std.proofs.Common.{◌≡◌, ◌⊎◌, ℕ, zero, suc, ◌+◌, ◌-◌, ◌<◌, ◌≤◌, ltb, eqb, cond, Bool, true, false, List, [], ◌∷◌, ◌++◌, map, length, length-append, drop, sym, refl, ap, ◌∙◌, subst, arith}
+use Rattle.std.proofs.Common.{◌≡◌, ℕ, zero, suc, ◌+◌, ◌-◌, ◌<◌, ◌≤◌, ltb, eqb, cond, Bool, true, false, List, [], ◌∷◌, ◌++◌, length, length-append, drop, sym, refl, ap, ◌∙◌, subst, arith}
 use Rattle.std.specs.Prelude as std
 use Rattle.std.specs.Option.{is_some}
 use Rattle.std.proofs.lemmas.List.{length-map}
@@ -10,7 +10,7 @@ use Rattle.phase_ops.specs.declared.effect.Effect.{Effect}
 use Rattle.phase_ops.specs.declared.phase.Phase.{Phase}
 use Rattle.phase_ops.specs.declared.phase.Phase.TheVariants.{Set, Loop, Part, Join}
 use Rattle.phase_ops.specs.Phases.{Cells, each_from, strands, strand_effects, reads}
-use Rattle.phase_ops.specs.Free.{In, stored, lessened, WellFormed}
+use Rattle.phase_ops.specs.Free.{WellFormed}
 use Rattle.phase_ops.proofs.Courses.{each_snoc}
 use Rattle.act_eval.proofs.Fitting.{each_split}
 use Rattle.act_eval.specs.Sites.{View}

@@ -1,17 +1,15 @@
 -- The steps of a search over a copy of the cells.
-use Rattle.std.proofs.Common.{◌≡◌, ◌≢◌, ℕ, zero, suc, ◌-◌, ◌<◌, ◌≤◌, ltb, eqb, cond, Bool, true, false, List, [], ◌∷◌, ◌++◌, map, length, drop, get_or, set, slice_index, slice_index_or, sym, refl, ap, ◌∙◌, subst, arith, get_or-set_same, get_or-set_other, length-set}
+use Rattle.std.proofs.Common.{◌≡◌, ◌≢◌, ℕ, zero, suc, ◌-◌, ◌<◌, ◌≤◌, ltb, eqb, cond, Bool, true, false, List, [], ◌∷◌, ◌++◌, map, length, drop, set, slice_index_or, sym, refl, ap, ◌∙◌, arith}
 use Rattle.std.specs.Prelude as std
-use Rattle.std.proofs.lemmas.List.{map-set, length-map}
-use Rattle.std.proofs.lemmas.List as lists
+use Rattle.std.proofs.lemmas.List.{map-set}
 use Rattle.std.proofs.Math.Seq.{map-set_same}
 use Rattle.std.proofs.lemmas.Bool.{lt-ltb, le-ltb}
 use Rattle.std.proofs.Common.{eq-eqb, ne_eqb}
 use mathlib.Core.Logic.{dite}
-use mathlib.Core.Option.{Option, none, some}
+use mathlib.Core.Option.{none, some}
 use native.Mathlib.Decide.{ℕ_discrete, dec_le}
 use lib.ListN.{get_elem?}
 use Rattle.phase_ops.specs.declared.effect.Effect.{Effect}
-use Rattle.phase_ops.specs.Phases.{Cells}
 use Rattle.team_core.specs.Machines.{as_option}
 use Rattle.team_core.specs.declared.scratch.ScratchCell.{ScratchCell}
 use Rattle.team_core.specs.Scratches.{untouched, openings, in_round, InRounds}
@@ -20,28 +18,6 @@ use Rattle.team_core.specs.Scratches.{untouched, openings, in_round, InRounds}
 
 abbrev pub opened : ℕ → ScratchCell
 opened n = record { opening = n; own = 0; round = 0 }
-
--- each of the cells is opened with its number
-pub all_opened : (cells : List ScratchCell) (numbers : List ℕ) → length cells ≡ length numbers → ((k : ℕ) → k < length numbers → get_or cells k untouched ≡ opened (get_or numbers k 0)) → cells ≡ map opened numbers
-all_opened [] [] l h = refl
-all_opened [] (n ∷ ns) l h = absurd (omega (arith, l))
-all_opened (c ∷ cs) [] l h = absurd (omega (arith, l))
-all_opened (c ∷ cs) (n ∷ ns) l h = λ i. h 0 (omega arith) i ∷ all_opened cs ns (omega (arith, l)) (λ k b. h (suc k) (omega (arith, b))) i
-
-opened_openings : (numbers : List ℕ) → openings (map opened numbers) ≡ numbers
-opened_openings [] = refl
-opened_openings (n ∷ ns) = ap (λ (l : List ℕ). n ∷ l) (opened_openings ns)
-
-opened_rounds : (numbers : List ℕ) (round at : ℕ) → at < length (map opened numbers) → (get_or (map opened numbers) at untouched).round ≤ round
-opened_rounds [] round at h = absurd (omega (arith, h))
-opened_rounds (n ∷ ns) round zero h = omega arith
-opened_rounds (n ∷ ns) round (suc at) h = opened_rounds ns round at (omega (arith, h))
-
-pub openings_are : (cells : List ScratchCell) (numbers : List ℕ) → cells ≡ map opened numbers → openings cells ≡ numbers
-openings_are cells numbers e = ap openings e ∙ opened_openings numbers
-
-pub rounds_are : (cells : List ScratchCell) (numbers : List ℕ) (round : ℕ) → cells ≡ map opened numbers → InRounds cells round
-rounds_are cells numbers round e = subst (λ (l : List ScratchCell). InRounds l round) (sym e) (opened_rounds numbers round)
 
 -- ---- rounds
 
@@ -52,13 +28,7 @@ fresh_cells (c ∷ cs) round h =
     let other : eqb c.round (suc round) ≡ false = ne_eqb c.round (suc round) (λ e. omega (arith, e, old)) in λ i.
     cond (other i) c.own c.opening ∷ fresh_cells cs round (λ at b. h (suc at) (omega (arith, b))) i
 
-pub more_rounds : (cells : List ScratchCell) (round : ℕ) → InRounds cells round → InRounds cells (suc round)
-more_rounds cells round h at b = let l = h at b in omega (arith, l)
-
 -- ---- one cell
-
-pub seen_at : (round : ℕ) (cells : List ScratchCell) (cell : ℕ) → cell < length cells → slice_index (map (in_round round) cells) cell ≡ in_round round (slice_index_or cells cell untouched)
-seen_at round cells cell h = lists.get_or-map (in_round round) cells cell untouched 0 h
 
 same_round : (n : ℕ) → eqb n n ≡ true
 same_round n = eq-eqb n n refl
@@ -69,20 +39,6 @@ stored_seen round cell value opening cells =
 
 pub stored_openings : (round cell value opening : ℕ) (cells : List ScratchCell) → opening ≡ (slice_index_or cells cell untouched).opening → openings (set cells cell (record { opening = opening; own = value; round = round })) ≡ openings cells
 stored_openings round cell value opening cells e = map-set_same (λ (c : ScratchCell). c.opening) cells cell (record { opening = opening; own = value; round = round }) untouched e
-
-pub stored_rounds : (round cell value opening : ℕ) (cells : List ScratchCell) → InRounds cells round → InRounds (set cells cell (record { opening = opening; own = value; round = round })) round
-stored_rounds round cell value opening cells h at b =
-    let x : ScratchCell = record { opening = opening; own = value; round = round } in
-    let long = length-set cells cell x in
-    dite (ℕ_discrete at cell)
-    (λ e. subst (λ (n : ℕ). (get_or (set cells cell x) n untouched).round ≤ round) (sym e) (subst (λ (y : ScratchCell). y.round ≤ round) (sym (get_or-set_same cells cell x untouched (omega (arith, b, long, e)))) (omega arith)))
-    (λ n. subst (λ (y : ScratchCell). y.round ≤ round) (sym (get_or-set_other cells cell at x untouched n)) (h at (omega (arith, b, long))))
-
--- past the end nothing changes
-pub set_past : {A : Type 0} (xs : List A) (i : ℕ) (x : A) → length xs ≤ i → set xs i x ≡ xs
-set_past [] i x h = refl
-set_past (y ∷ ys) zero x h = absurd (omega (arith, h))
-set_past (y ∷ ys) (suc i) x h = ap (λ (l : List _). y ∷ l) (set_past ys i x (omega (arith, h)))
 
 -- ---- effects
 

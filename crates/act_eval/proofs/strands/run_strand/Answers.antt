@@ -1,7 +1,7 @@
-use Rattle.std.proofs.Common.{◌≡◌, ℕ, ◌+◌, ◌*◌, List, sym, ap, ◌∙◌, subst}
+use Rattle.std.proofs.Common.{ℕ, ◌+◌, List, sym, ap, ◌∙◌, subst}
 use Rattle.phase_ops.specs.declared.effect.Effect.{Effect}
 use Rattle.phase_ops.specs.declared.phase.Act.{Act}
-use Rattle.phase_ops.specs.Phases.{unit_size, acts_events, pieces}
+use Rattle.phase_ops.specs.Phases.{acts_events}
 use Rattle.phase_ops.specs.Free.{acts_of}
 use Rattle.act_eval.specs.Sites.{View, Comes}
 use Rattle.act_eval.specs.Strands.{PartBegins, JoinBegins}

@@ -1,4 +1,4 @@
-use Rattle.std.proofs.Common.{◌≡◌, ℕ, ◌≤◌, List, length, get_or, sym, ap, ◌∙◌, subst, arith}
+use Rattle.std.proofs.Common.{◌≡◌, List, length, get_or, sym, ap, ◌∙◌, subst, arith}
 use Rattle.phase_ops.specs.declared.phase.Phase.{Phase}
 use Rattle.phase_ops.specs.Phases.{Cells, natural}
 use Rattle.phase_ops.specs.Free.{WellFormed, count_value}
