@@ -12,6 +12,7 @@ use crate::walk::stmts;
 use crate::within::Within;
 use std::alloc::{AllocError, Global};
 use ws_base::Refusal;
+use ws_counts::check_limits;
 use ws_tree::Tree;
 use ws_types::{Constant, Row};
 
@@ -38,6 +39,7 @@ fn judge(alloc: Global, tree: &Tree) -> Result<Findings, AllocError>
         Within::Outside,
         tree.body.as_slice(),
     )?;
+    check_limits(alloc, &mut first, table.as_slice(), tree.body.as_slice())?;
     Ok(Findings {
         first,
         table,
@@ -54,8 +56,7 @@ pub fn first_fault(alloc: Global, tree: &Tree) -> Result<Option<Refusal>, AllocE
 }
 
 /// Keeps a tree that breaks no rule, and refuses every other one, at the first line at which a rule is broken and with
-/// the least kind there. The limits on what one statement or region may count, 1024 parts, 512 phases and 64 temporaries,
-/// are no rules here. Memory comes for want of memory alone.
+/// the least kind there. Memory comes for want of memory alone.
 pub fn check(alloc: Global, tree: Tree) -> Result<Checked, CheckEnd>
     requires { IsGrammatical tree }
     ensures same { IfOk result (λ checked. checked ≡ tree) }
