@@ -21,6 +21,7 @@ use Rattle.ws_types.specs.declared.types.Subscripts.{Subscripts}
 use Rattle.ws_types.specs.Operations.{no_subscripts}
 use Rattle.ws_types.specs.Lists as lists
 use Rattle.ws_types.proofs.Walks.{subscripts_list}
+use Rattle.ws_types.specs.Tables as tables
 use Rattle.ws_sema.specs.Statements as s
 use Rattle.ws_types.proofs.Appended.{least-append, least-none}
 
@@ -38,9 +39,9 @@ masked_is : (t : List Row) (w : Within) (line : ℕ) (mask : Expr) (block : List
 unfolding trees_open
 masked_is t w line mask block rest = rw (block_list t (s.under t line mask) block, elses_list t line (s.mask_rank t mask) rest)
 
-forall_is : (t : List Row) (w : Within) (line : ℕ) (is : List Index) (mask : Option Expr) (block : List Stmt) → s.body_faults t w line (Forall is mask block) ≡ (if s.is_masked w then when true line kind.Unsupported else (s.forall_header_faults t line is mask ++ s.stmts_faults (s.inner t is) within.Forall block))
+forall_is : (t : List Row) (w : Within) (line : ℕ) (is : List Index) (mask : Option Expr) (block : List Stmt) → s.body_faults t w line (Forall is mask block) ≡ (if s.is_masked w then when true line kind.Unsupported else (s.forall_header_faults t line is mask ++ s.stmts_faults (tables.inner t is) within.Forall block))
 unfolding trees_open
-forall_is t w line is mask block = rw (block_list (s.inner t is) within.Forall block)
+forall_is t w line is mask block = rw (block_list (tables.inner t is) within.Forall block)
 
 loop_is : (t : List Row) (w : Within) (line : ℕ) (x : List ℕ) (l u : Expr) (st : Option Expr) (block : List Stmt) → s.body_faults t w line (Loop x l u st block) ≡ (if s.is_masked w then when true line kind.Unsupported else (s.loop_header_faults t w line x l u st ++ s.stmts_faults (s.with_active t x) w block))
 unfolding trees_open
@@ -67,17 +68,17 @@ masked_noted t w line whole mask block block' rest rest' rank f0 f1 f2 f3 is sb 
     ∙ ap (least_from f0) (sym whole_is)
 
 pub forall_noted : (t : List Row) (w : Within) (line : ℕ) (whole : Body) (is is' : List Index) (mask : Option Expr) (block block' : List Stmt) (table : List Row) (f0 f1 f2 : Option Refusal) →
-    whole ≡ Forall is mask block → block' ≡ block → is' ≡ is → s.is_masked w ≡ false → table ≡ s.inner t is' →
+    whole ≡ Forall is mask block → block' ≡ block → is' ≡ is → s.is_masked w ≡ false → table ≡ tables.inner t is' →
     f1 ≡ least_from f0 (s.forall_header_faults t line is' mask) → f2 ≡ least_from f1 (s.stmts_faults table within.Forall block') →
     f2 ≡ least_from f0 (s.body_faults t w line whole)
-forall_noted t w line whole is is' mask block block' table f0 f1 f2 e sb si free tables e1 e2 =
-    let sum : List Refusal = s.forall_header_faults t line is mask ++ s.stmts_faults (s.inner t is) within.Forall block in
+forall_noted t w line whole is is' mask block block' table f0 f1 f2 e sb si free known e1 e2 =
+    let sum : List Refusal = s.forall_header_faults t line is mask ++ s.stmts_faults (tables.inner t is) within.Forall block in
     let whole_is : s.body_faults t w line whole ≡ sum = ap (s.body_faults t w line) e ∙ forall_is t w line is mask block ∙ ap (λ b. if b then when true line kind.Unsupported else sum) free in
     e2
     ∙ ap (λ b. least_from f1 (s.stmts_faults table within.Forall b)) sb
-    ∙ ap (λ r. least_from f1 (s.stmts_faults r within.Forall block)) (tables ∙ ap (s.inner t) si)
-    ∙ ap (λ f. least_from f (s.stmts_faults (s.inner t is) within.Forall block)) (e1 ∙ ap (λ i. least_from f0 (s.forall_header_faults t line i mask)) si)
-    ∙ sym (least-append f0 (s.forall_header_faults t line is mask) (s.stmts_faults (s.inner t is) within.Forall block))
+    ∙ ap (λ r. least_from f1 (s.stmts_faults r within.Forall block)) (known ∙ ap (tables.inner t) si)
+    ∙ ap (λ f. least_from f (s.stmts_faults (tables.inner t is) within.Forall block)) (e1 ∙ ap (λ i. least_from f0 (s.forall_header_faults t line i mask)) si)
+    ∙ sym (least-append f0 (s.forall_header_faults t line is mask) (s.stmts_faults (tables.inner t is) within.Forall block))
     ∙ ap (least_from f0) (sym whole_is)
 
 pub loop_noted : (t : List Row) (w : Within) (line : ℕ) (whole : Body) (x : List ℕ) (l u : Expr) (st : Option Expr) (block block' : List Stmt) (table : List Row) (f0 f1 f2 : Option Refusal) →

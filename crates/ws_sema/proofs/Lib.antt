@@ -3,3 +3,4 @@ pub mod Headers
 pub mod Blocks
 pub mod Order
 pub mod Computed
+pub mod Accepted

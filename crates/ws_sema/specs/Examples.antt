@@ -26,8 +26,8 @@ first t = least_from None (rule_faults t)
 abbrev pub IsRefused : Tree → ℕ → RefusalKind → Type 0
 IsRefused t line kind = first t ≡ Some (record { line = line; kind = kind })
 
-abbrev pub IsAccepted : Tree → Type 0
-IsAccepted t = first t ≡ None
+abbrev pub IsFaultless : Tree → Type 0
+IsFaultless t = first t ≡ None
 
 -- ---- a shorter spelling of trees
 

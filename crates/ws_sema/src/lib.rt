@@ -1,7 +1,8 @@
-//! The checks of a source: what is refused, at which line and why.
+//! The checks of a source: what is refused, at which line and why. Read `specs/Statements.antt` and `Checks.antt` first.
 #![tactic(auto)]
 
-mod check;
+mod checked;
+mod checking;
 mod decl;
 mod laws;
 mod stmt;
@@ -10,5 +11,6 @@ mod tests;
 mod walk;
 mod within;
 
-pub use check::first_fault;
+pub use checked::{CheckEnd, Checked};
+pub use checking::{check, first_fault};
 pub use laws::{declaration_examples, expression_examples, statement_examples};

@@ -1,12 +1,11 @@
 //! The rules on statements.
 
-ghost use Rattle.std.specs.Prelude.{◌≡◌, ◌++◌, map, [], OnOk, IfOk};
+ghost use Rattle.std.specs.Prelude.{◌≡◌, []};
 ghost use Rattle.ws_types.specs.Kinds.{least_from};
 ghost use Rattle.ws_sema.specs.Statements as statements;
 ghost use Rattle.ws_types.specs.Lists.{given_faults};
 
 use crate::within::Within;
-use std::alloc::{AllocError, Global};
 use ws_base::{Name, Refusal, RefusalKind};
 use ws_tree::{Bound, Expr, Index, Part};
 use ws_types::{
@@ -238,50 +237,6 @@ pub fn scalar_expr(found: &mut Option<Refusal>, table: &[Row], line: u32, e: &Ex
 {
     let typed = expr(found, table, false, line, e);
     check_scalar(found, line, typed);
-}
-
-pub fn copied(alloc: Global, row: &Row) -> Result<Row, AllocError>
-    ensures { IfOk result (λ copy. copy ≡ row.now) }
-{
-    Ok(Row {
-        name: row.name.copy(alloc)?,
-        standing: row.standing,
-    })
-}
-
-fn index_row(alloc: Global, standing: Standing, index: &Index) -> Result<Row, AllocError>
-    ensures { IfOk result (λ row. row ≡ statements.row standing index.now) }
-{
-    Ok(Row {
-        name: index.name.copy(alloc)?,
-        standing,
-    })
-}
-
-pub fn push_rows(alloc: Global, rows: &mut Vec<Row>, table: &[Row]) -> Result<(), AllocError>
-    ensures { OnOk result (rows.new.items ≡ rows.old.items ++ table.now) }
-{
-    'each: for row in table {
-        rows.push(copied(alloc, row)?)?;
-    }
-    Ok(())
-}
-
-/// The table in which these index names stand first.
-pub fn with_indexes(
-    alloc: Global,
-    standing: Standing,
-    indexes: &[Index],
-    table: &[Row],
-) -> Result<Vec<Row>, AllocError>
-    ensures { IfOk result (λ rows. rows.items ≡ statements.with_indexes standing indexes.now table.now) }
-{
-    let mut rows = Vec::new(alloc);
-    'each: for index in indexes {
-        rows.push(index_row(alloc, standing, index)?)?;
-    }
-    push_rows(alloc, &mut rows, table)?;
-    Ok(rows)
 }
 
 fn is_listed(indexes: &[Index], name: &Name) -> bool

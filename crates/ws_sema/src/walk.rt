@@ -2,17 +2,18 @@
 
 ghost use Rattle.std.specs.Prelude.{◌≡◌, OnOk, IfOk};
 ghost use Rattle.ws_types.specs.Kinds.{least_from};
+ghost use Rattle.ws_types.specs.Tables as tables;
 ghost use Rattle.ws_sema.specs.Statements as statements;
 
 use crate::stmt::{
     allocations, assignment, check_loop, check_mask, deallocations, enclosing_rank, forall_mask,
-    header, is_inside, items, push_rows, rank_of, scalar_expr, with_indexes,
+    header, is_inside, items, rank_of, scalar_expr,
 };
 use crate::within::Within;
 use std::alloc::{AllocError, Global};
 use ws_base::{Name, Refusal, RefusalKind};
 use ws_tree::{Body, Else, Expr, Index, Stmt};
-use ws_types::{Row, Standing, expr, note, standing_of, triplet_part};
+use ws_types::{Row, Standing, expr, note, push_rows, standing_of, triplet_part, with_indexes};
 
 fn is_masked(within: Within) -> bool
     ensures { result ≡ statements.is_masked within }
@@ -324,7 +325,7 @@ fn forall_header(
     indexes: &[Index],
     mask: &Option<Expr>,
 ) -> Result<Vec<Row>, AllocError>
-    ensures value { IfOk result (λ rows. rows.items ≡ statements.inner table.now indexes.now) }
+    ensures value { IfOk result (λ rows. rows.items ≡ tables.inner table.now indexes.now) }
     ensures faults { OnOk result (found.new ≡ least_from found.old (statements.forall_header_faults table.now line indexes.now mask.now)) }
 {
     let barred = with_indexes(alloc, Standing::Barred, indexes, table)?;

@@ -4,5 +4,6 @@ pub mod Operations
 pub mod Expressions
 pub mod Lists
 pub mod Constants
+pub mod Tables
 pub mod Sections
 pub mod Steps

@@ -7,6 +7,7 @@ mod constant;
 mod least;
 mod names;
 mod operations;
+mod tables;
 mod types;
 mod typing;
 
@@ -17,5 +18,6 @@ pub use names::{
     target_type,
 };
 pub use operations::{check_scalar, is_above, is_other_type, is_reduction};
+pub use tables::{push_rows, with_indexes};
 pub use types::{Arguments, Entry, Row, Standing, Subscripts, Typed};
 pub use typing::{expr, subs_of, triplet_part};
