@@ -1,0 +1,4 @@
+pub mod Roles
+pub mod Statements
+pub mod Parsing
+pub mod Firsts
