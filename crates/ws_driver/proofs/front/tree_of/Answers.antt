@@ -1,0 +1,5 @@
+use Rattle.std.proofs.Common.{inl, inr}
+use Rattle.ws_driver.proofs.front.tree_of.Goals as goal
+
+pub returns-in-Err-Refused-clause-err : goal.returns-in-Err-Refused-clause-err
+returns-in-Err-Refused-clause-err c = ?
