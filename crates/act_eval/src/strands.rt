@@ -1,10 +1,12 @@
 //! The strands of a phase: an iteration of a Loop, a unit of a Part, the whole of a Set or a Join.
 
-ghost use Rattle.std.specs.Prelude.{◌≡◌, ◌+◌, ◌≤◌, IsTrue, List, length};
+ghost use Rattle.std.specs.Prelude.{◌≡◌, ℕ, ◌+◌, ◌≤◌, ◌<◌, IsTrue, List, length};
 ghost use Rattle.phase_ops.specs.declared.effect.Effect.{Effect};
 ghost use Rattle.phase_ops.specs.Partials.{is_reduction};
 ghost use Rattle.act_eval.specs.Sites.{Led};
-ghost use Rattle.act_eval.specs.Strands.{Begins, HasRoom, HasStrand, PartBegins, JoinBegins};
+ghost use Rattle.phase_ops.specs.Phases.{Cells, natural, units, first_strand, strand_count};
+ghost use Rattle.phase_ops.specs.Free.{count_value};
+ghost use Rattle.act_eval.specs.Strands.{AreChunks, Begins, HasRoom, HasStrand, PartBegins, JoinBegins};
 
 use crate::acts::run_acts;
 use crate::chunks::Chunks;
@@ -14,6 +16,29 @@ use crate::site::Site;
 use phase_ops::{Act, Phase};
 use scan_parts::{AllPart, AnyPart, CountPart, MaxvalPart, MinvalPart, ProductPart, SumPart};
 use ws_base::CallWord;
+
+/// The number of the phase's units.
+pub fn units_of(phase: &Phase, chunks: Chunks) -> u64
+    requires { AreChunks chunks.chunk chunks.count }
+    ensures { (m : Cells) → chunks.count ≡ natural (count_value phase.now m) → result ≡ units phase.now m chunks.chunk }
+{
+    match phase {
+        Phase::Set { .. } | Phase::Join { .. } => 1,
+        Phase::Loop { .. } | Phase::Part { .. } => u64::from(chunks.units()),
+    }
+}
+
+/// The first strand of a unit, and how many it has.
+pub fn strands_of(phase: &Phase, chunks: Chunks, unit: u32) -> (u32, u32)
+    requires chunks { AreChunks chunks.chunk chunks.count }
+    requires there { (m : Cells) × (chunks.count ≡ natural (count_value phase.now m)) × (unit < units phase.now m chunks.chunk) }
+    ensures { (m : Cells) → chunks.count ≡ natural (count_value phase.now m) → (result.0 ≡ first_strand phase.now chunks.chunk unit) × (result.1 ≡ strand_count phase.now m chunks.chunk unit) }
+{
+    match phase {
+        Phase::Loop { .. } => (chunks.start(unit), chunks.size(unit)),
+        _ => (unit, 1),
+    }
+}
 
 /// A unit of a Part of any reduction.
 fn run_part_of<H, S: Site<H>>(

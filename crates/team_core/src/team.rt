@@ -21,6 +21,7 @@ use std::alloc::{AllocError, Global};
 #[derive(Drop)]
 pub struct Core {
     machine: Machine<PhaseUnits>,
+    /// As the core was started with it. What the machine keeps is the course of its units alone.
     chunk: u32,
 }
 

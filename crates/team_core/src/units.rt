@@ -1,13 +1,9 @@
 //! The units of a list of phases, as the work of a team.
 
-ghost use Rattle.std.specs.Prelude.{◌≡◌, ℕ, ◌+◌, ◌<◌, ◌≤◌, length, IfOk, slice_index_or};
-ghost use lib.ListN.{get_elem?};
+ghost use Rattle.std.specs.Prelude.{◌≡◌, ℕ, ◌<◌, ◌≤◌, length, IfOk, slice_index_or};
 ghost use Rattle.phase_ops.specs.declared.phase.Act.{Act as SpecAct};
-ghost use Rattle.phase_ops.specs.Phases.{Cells, natural, units, first_strand, strand_count, source as source_value};
-ghost use Rattle.phase_ops.specs.Course.{work_at};
-ghost use Rattle.phase_ops.specs.Free.{In, acts_of, count_value};
-ghost use Rattle.act_eval.specs.Strands.{AreChunks};
-ghost use Rattle.team_core.specs.Machines.{as_option, Enters};
+ghost use Rattle.phase_ops.specs.Phases.{natural, source as source_value};
+ghost use Rattle.phase_ops.specs.Free.{In, count_value};
 ghost use Rattle.team_core.specs.Laws.{MayStart, phase_at};
 ghost use Rattle.team_core.specs.Units.{HasCount, HasNumber, IsMadeFor, IsPlaceOf, AreShort, nowhere};
 
@@ -15,7 +11,7 @@ use crate::machine::UnitWork;
 use crate::rehearsal::find_effect;
 use crate::scratch::Scratch;
 use crate::state::CellList;
-use act_eval::Chunks;
+use act_eval::{Chunks, strands_of, units_of};
 use phase_ops::{Act, Effect, Phase, PhaseList, Source};
 use sqlite_items::Items;
 use std::alloc::{AllocError, Global};
@@ -45,7 +41,7 @@ fn longest_in(phase: &Phase, least: usize) -> usize
 }
 
 /// The number of registers that each act of the phases can run with.
-fn longest(phases: &[Phase]) -> usize
+pub fn longest(phases: &[Phase]) -> usize
     ensures { (t : ℕ) → t < length phases.now → AreShort (phase_at phases.now t) result }
 {
     let mut longest = 0;
@@ -76,29 +72,6 @@ fn count_of(phase: &Phase, cells: &[u64]) -> u32
         Phase::Loop { count, .. } => number_at(cells, *count),
         Phase::Part { count, .. } => number_at(cells, *count),
         Phase::Join { count, .. } => number_at(cells, *count),
-    }
-}
-
-/// The number of the phase's units.
-fn units_of(phase: &Phase, chunks: Chunks) -> u64
-    requires { AreChunks chunks.chunk chunks.count }
-    ensures { (m : Cells) → chunks.count ≡ natural (count_value phase.now m) → result ≡ units phase.now m chunks.chunk }
-{
-    match phase {
-        Phase::Set { .. } | Phase::Join { .. } => 1,
-        Phase::Loop { .. } | Phase::Part { .. } => u64::from(chunks.units()),
-    }
-}
-
-/// The first strand of a unit, and how many it has.
-fn strands_of(phase: &Phase, chunks: Chunks, unit: u32) -> (u32, u32)
-    requires chunks { AreChunks chunks.chunk chunks.count }
-    requires there { (m : Cells) × (chunks.count ≡ natural (count_value phase.now m)) × (unit < units phase.now m chunks.chunk) }
-    ensures { (m : Cells) → chunks.count ≡ natural (count_value phase.now m) → (result.0 ≡ first_strand phase.now chunks.chunk unit) × (result.1 ≡ strand_count phase.now m chunks.chunk unit) }
-{
-    match phase {
-        Phase::Loop { .. } => (chunks.start(unit), chunks.size(unit)),
-        _ => (unit, 1),
     }
 }
 
