@@ -1,0 +1,3 @@
+integer :: a(3)
+allocate (a(3))
+end

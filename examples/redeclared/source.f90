@@ -1,0 +1,3 @@
+integer :: n
+logical :: n
+end
