@@ -1,2 +1,4 @@
-pub mod Associated
-pub mod Past
+mod Associated
+mod Past
+mod Made
+mod Columns

@@ -1,0 +1,178 @@
+//! The place of an element (Fortran 2018, 9.5.3.3), and the elements at columns of subscripts.
+
+ghost use Rattle.std.specs.Prelude.{◌≡◌, ◌≤◌, ◌<◌, ◌+◌, ◌*◌, ◌^◌, length, IfOk, Err, Some, None, if◌then◌else◌};
+ghost use Rattle.std.specs.List.{All};
+ghost use Rattle.ws_base.specs.declared.fault.FaultName.TheVariants.{Unallocated};
+ghost use Rattle.ws_base.specs.Outcomes.{each, rows};
+ghost use Rattle.ws_space.specs.Shapes as shapes;
+ghost use Rattle.ws_space.specs.Shapes.{extents_of, distance};
+ghost use Rattle.ws_space.specs.Values as space;
+ghost use Rattle.ws_space.specs.Sections as sections;
+ghost use Rattle.ws_space.specs.WellFormed.{elements, IsWellFormedVar};
+ghost use Rattle.array_meaning.specs.Forall.{element_of, place_in};
+ghost use Rattle.slow_eval.specs.Made.{Gives};
+ghost use Rattle.slow_eval.specs.Limits.{IsFew};
+ghost use Rattle.slow_eval.specs.Lists.{element_in};
+
+use crate::maps::{keep, row};
+use crate::names::state_of;
+use crate::shapes::dims_of;
+use crate::stop::Stop;
+use sqlite_items::Items;
+use std::alloc::Global;
+use ws_base::FaultName;
+use ws_space::{ArrayValue, Dim, ELEMENT_LIMIT, Var, VarState};
+
+/// The last subscript of a dimension.
+pub fn upper(dim: Dim) -> i128
+    ensures { result ≡ shapes.upper dim }
+{
+    i128::from(dim.lower) + i128::from(dim.extent) - 1
+}
+
+pub fn is_within(dim: Dim, subscript: i128) -> bool
+    ensures { result ≡ shapes.within dim subscript }
+{
+    i128::from(dim.lower) <= subscript && subscript <= upper(dim)
+}
+
+/// How far a subscript is above the lower bound, where it is within the dimension.
+fn offset(dim: Dim, subscript: i64) -> Option<u64>
+    ensures { result ≡ (if shapes.within dim subscript then Some (distance dim.lower subscript) else None) }
+{
+    if is_within(dim, i128::from(subscript)) {
+        Some((i128::from(subscript) - i128::from(dim.lower)) as u64)
+    } else {
+        None
+    }
+}
+
+/// The place of the element with these subscripts, from 0. Bounds where one is out of bounds. An array has at most three
+/// dimensions, so the recursion is as deep.
+pub fn place(dims: &[Dim], subscripts: &[i64]) -> Result<u32, FaultName>
+    requires { IsFew (extents_of dims.now) }
+    ensures value { result ≡ shapes.place dims.now subscripts.now }
+    ensures below { IfOk result (λ place. place < shapes.size (extents_of dims.now)) }
+{
+    match (dims, subscripts) {
+        ([], _) => Ok(0),
+        (_, []) => Err(FaultName::Bounds),
+        ([dim, dims @ ..], [subscript, subscripts @ ..]) => {
+            let Some(offset) = offset(*dim, *subscript) else {
+                return Err(FaultName::Bounds);
+            };
+            let place = place(dims, subscripts)?;
+            Ok((offset + dim.extent * u64::from(place)) as u32)
+        }
+    }
+}
+
+/// The value at a place, and 0 past the end.
+pub fn value_at(values: &[i64], place: u32) -> i64
+    ensures { result ≡ space.value_at values.now place }
+{
+    match values.get(place as usize) {
+        Some(value) => *value,
+        None => 0,
+    }
+}
+
+/// The element with these subscripts.
+pub fn element(dims: &[Dim], values: &[i64], subscripts: &[i64]) -> Result<i64, FaultName>
+    requires { IsFew (extents_of dims.now) }
+    ensures { result ≡ element_in dims.now values.now subscripts.now }
+{
+    let place = place(dims, subscripts)?;
+    Ok(value_at(values, place))
+}
+
+/// The elements with the subscripts of each row of the columns, of which there is one for each dimension.
+pub fn elements_at(
+    alloc: Global,
+    array: &ArrayValue,
+    places: &[u32],
+    columns: &[Items<i64>],
+) -> Result<Items<i64>, Stop>
+    requires array { elements array.now.shape ≤ ELEMENT_LIMIT }
+    requires few { length places.now ≤ 2 ^ 32 }
+    requires columns { All (λ column. length column ≡ length places.now) columns.now }
+    ensures { Gives result (sections.elements_at array.now places.now columns.now) }
+{
+    let dims = dims_of(alloc, &array.shape)?;
+    let mut made = Items::new(alloc);
+    for i in 0..places.len() {
+        let subscripts = row(alloc, columns, i)?;
+        let value = element(dims.as_slice(), array.values.as_slice(), subscripts.as_slice());
+        keep(&mut made, value)?;
+    }
+    Ok(made)
+}
+
+/// The places of the elements with the subscripts of each row of the columns.
+pub fn places_at(
+    alloc: Global,
+    array: &ArrayValue,
+    places: &[u32],
+    columns: &[Items<i64>],
+) -> Result<Items<u32>, Stop>
+    requires array { elements array.now.shape ≤ ELEMENT_LIMIT }
+    requires few { length places.now ≤ 2 ^ 32 }
+    requires columns { All (λ column. length column ≡ length places.now) columns.now }
+    ensures { Gives result (sections.places_at array.now places.now columns.now) }
+{
+    let dims = dims_of(alloc, &array.shape)?;
+    let mut made = Items::new(alloc);
+    for i in 0..places.len() {
+        let subscripts = row(alloc, columns, i)?;
+        keep(&mut made, place(dims.as_slice(), subscripts.as_slice()))?;
+    }
+    Ok(made)
+}
+
+/// Unallocated at the first of these places.
+fn none_at<T: Drop>(alloc: Global, places: &[u32]) -> Result<Items<T>, Stop>
+    ensures { Gives result (each (λ _. Err Unallocated) places.now) }
+{
+    if places.is_empty() {
+        return Ok(Items::new(alloc));
+    }
+    Err(Stop::from(FaultName::Unallocated))
+}
+
+/// The elements of a variable in a FORALL, one for each combination. Unallocated where it is no array.
+pub fn elements_over(
+    alloc: Global,
+    vars: &[Var],
+    name: &str,
+    places: &[u32],
+    columns: &[Items<i64>],
+) -> Result<Items<i64>, Stop>
+    requires vars { All IsWellFormedVar vars.now }
+    requires few { length places.now ≤ 2 ^ 32 }
+    requires columns { All (λ column. length column ≡ length places.now) columns.now }
+    ensures { Gives result (each (element_of (space.state_of vars.now name.now)) (rows places.now columns.now)) }
+{
+    match state_of(vars, name) {
+        Some(VarState::Array(array)) => elements_at(alloc, array, places, columns),
+        _ => none_at(alloc, places),
+    }
+}
+
+/// The places of the elements of a variable that a FORALL assigns to, one for each combination.
+pub fn targets_over(
+    alloc: Global,
+    vars: &[Var],
+    name: &str,
+    places: &[u32],
+    columns: &[Items<i64>],
+) -> Result<Items<u32>, Stop>
+    requires vars { All IsWellFormedVar vars.now }
+    requires few { length places.now ≤ 2 ^ 32 }
+    requires columns { All (λ column. length column ≡ length places.now) columns.now }
+    ensures { Gives result (each (place_in (space.state_of vars.now name.now)) (rows places.now columns.now)) }
+{
+    match state_of(vars, name) {
+        Some(VarState::Array(array)) => places_at(alloc, array, places, columns),
+        _ => none_at(alloc, places),
+    }
+}
