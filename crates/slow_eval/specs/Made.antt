@@ -24,7 +24,8 @@ abbrev pub made_then : {A : Type 0} → List A → Staged (List A) → Staged (L
 made_then made (Ok rest) = Ok (made ++ rest)
 made_then made (Err t) = Err (record { element = length made + t.element; name = t.name })
 
--- values for this many places: as many, or a fault at one of them
-abbrev pub Along : {A : Type 0} → ℕ → Staged (List A) → Type 0
-Along n (Ok xs) = length xs ≡ n
-Along n (Err t) = t.element < n
+-- as many values as this, or a fault at one of so many places
+abbrev pub IsAlong : {A : Type 0} → Result (List A) Stop → ℕ → Type 0
+IsAlong (Ok xs) n = length xs ≡ n
+IsAlong (Err Memory) n = ⊤
+IsAlong (Err (Failed t)) n = t.element < n

@@ -1,7 +1,7 @@
 //! Operators and elemental calls as maps over the active places, from the columns of their operands (Fortran 2018, 10.1.4 and 15.8.2).
 //! A fault is that of the first place where the operation fails, and its element is the place in the column, from 0.
 
-ghost use Rattle.std.specs.Prelude.{◌≡◌, ◌≤◌, ◌<◌, ◌^◌, map, length, slice_index_or, pos, OnOk, IfOk, IfErr};
+ghost use Rattle.std.specs.Prelude.{◌≡◌, ◌≤◌, ◌<◌, ◌^◌, map, length, slice_index_or, pos, OnOk, IfOk, IfErr, Err};
 ghost use Rattle.std.specs.List.{All};
 ghost use Rattle.ws_base.specs.Outcomes.{each};
 ghost use Rattle.ws_space.specs.Maps as maps;
@@ -94,7 +94,19 @@ pub fn call_map(
     Ok(made)
 }
 
-/// One answer for every place, which fails at the first of them.
+/// A fault at the first of these places.
+#[tactic(auto, using(crate::proofs::Made::each_fault))]
+pub fn fails<T: Drop>(alloc: Global, name: FaultName, places: &[u32]) -> Result<Items<T>, Stop>
+    ensures { Gives result (each (λ _. Err name) places.now) }
+{
+    if places.is_empty() {
+        return Ok(Items::new(alloc));
+    }
+    Err(Stop::from(name))
+}
+
+/// One answer for every place.
+#[tactic(auto, using(crate::proofs::Made::each_value))]
 pub fn everywhere(
     alloc: Global,
     answer: Result<i64, FaultName>,
@@ -102,19 +114,16 @@ pub fn everywhere(
 ) -> Result<Items<i64>, Stop>
     ensures { Gives result (each (λ _. answer) places.now) }
 {
-    if places.is_empty() {
-        return Ok(Items::new(alloc));
+    match answer {
+        Ok(value) => Ok(same_value(alloc, value, places)?),
+        Err(name) => fails(alloc, name, places),
     }
-    Ok(same_value(alloc, answer?, places)?)
 }
 
 /// One value at every place.
+#[tactic(auto, using(crate::proofs::Elements::everywhere_is))]
 pub fn same_value(alloc: Global, value: i64, places: &[u32]) -> Result<Items<i64>, AllocError>
     ensures { IfOk result (λ made. made ≡ maps.everywhere_same value places.now) }
 {
-    let mut made = Items::new(alloc);
-    for _ in places {
-        made.push(value)?;
-    }
-    Ok(made)
+    Ok(Items::from_vec(vec![in alloc; value; places.len()]?))
 }

@@ -1,8 +1,7 @@
 //! The place of an element (Fortran 2018, 9.5.3.3), and the elements at columns of subscripts.
 
-ghost use Rattle.std.specs.Prelude.{◌≡◌, ◌≤◌, ◌<◌, ◌+◌, ◌*◌, ◌^◌, length, IfOk, Err, Some, None, if◌then◌else◌};
+ghost use Rattle.std.specs.Prelude.{◌≡◌, ◌≤◌, ◌<◌, ◌+◌, ◌*◌, ◌^◌, length, IfOk, Some, None, if◌then◌else◌};
 ghost use Rattle.std.specs.List.{All};
-ghost use Rattle.ws_base.specs.declared.fault.FaultName.TheVariants.{Unallocated};
 ghost use Rattle.ws_base.specs.Outcomes.{each, rows};
 ghost use Rattle.ws_space.specs.Shapes as shapes;
 ghost use Rattle.ws_space.specs.Shapes.{extents_of, distance};
@@ -14,7 +13,7 @@ ghost use Rattle.slow_eval.specs.Made.{Gives};
 ghost use Rattle.slow_eval.specs.Limits.{IsFew};
 ghost use Rattle.slow_eval.specs.Lists.{element_in};
 
-use crate::maps::{keep, row};
+use crate::maps::{fails, keep, row};
 use crate::names::state_of;
 use crate::shapes::dims_of;
 use crate::stop::Stop;
@@ -129,16 +128,6 @@ pub fn places_at(
     Ok(made)
 }
 
-/// Unallocated at the first of these places.
-fn none_at<T: Drop>(alloc: Global, places: &[u32]) -> Result<Items<T>, Stop>
-    ensures { Gives result (each (λ _. Err Unallocated) places.now) }
-{
-    if places.is_empty() {
-        return Ok(Items::new(alloc));
-    }
-    Err(Stop::from(FaultName::Unallocated))
-}
-
 /// The elements of a variable in a FORALL, one for each combination. Unallocated where it is no array.
 pub fn elements_over(
     alloc: Global,
@@ -154,7 +143,7 @@ pub fn elements_over(
 {
     match state_of(vars, name) {
         Some(VarState::Array(array)) => elements_at(alloc, array, places, columns),
-        _ => none_at(alloc, places),
+        _ => fails(alloc, FaultName::Unallocated, places),
     }
 }
 
@@ -173,6 +162,6 @@ pub fn targets_over(
 {
     match state_of(vars, name) {
         Some(VarState::Array(array)) => places_at(alloc, array, places, columns),
-        _ => none_at(alloc, places),
+        _ => fails(alloc, FaultName::Unallocated, places),
     }
 }

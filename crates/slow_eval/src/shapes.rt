@@ -1,6 +1,6 @@
 //! Dimensions, extents and places of arrays, in array element order (Fortran 2018, 9.5.3.3).
 
-ghost use Rattle.std.specs.Prelude.{◌≡◌, ◌≤◌, ◌<◌, IfOk, nat_lt};
+ghost use Rattle.std.specs.Prelude.{◌≡◌, ◌≤◌, ◌<◌, ◌∷◌, IfOk, nat_lt};
 ghost use Rattle.std.specs.List.{All};
 ghost use Rattle.ws_space.specs.Shapes as spec;
 ghost use Rattle.slow_eval.specs.Made.{Gives};
@@ -50,11 +50,28 @@ pub fn is_too_large(extents: &[u64]) -> bool
 fn same_extents(a: &[u64], b: &[u64]) -> bool
     ensures { result ≡ spec.same_extents a.now b.now }
 {
-    match (a, b) {
-        ([], []) => true,
-        ([m, ms @ ..], [n, ns @ ..]) => *m == *n && same_extents(ms, ns),
-        _ => false,
+    match a {
+        [] => b.is_empty(),
+        [m, ms @ ..] => match b {
+            [] => false,
+            [n, ns @ ..] => *m == *n && same_extents(ms, ns),
+        },
     }
+}
+
+/// The shape that all of these have. Shape where two differ.
+fn agreed_on(alloc: Global, first: &Extents, more: &[Extents]) -> Result<Extents, Stop>
+    ensures value { Gives result (spec.agreed (first.now ∷ more.now)) }
+    ensures few { IsFew first.now → All IsFew more.now → IfOk result IsFew }
+{
+    let mut last = first;
+    for shape in more {
+        if !same_extents(last.as_slice(), shape.as_slice()) {
+            return Err(Stop::from(FaultName::Shape));
+        }
+        last = shape;
+    }
+    Ok(Items::from_slice(alloc, last.as_slice())?)
 }
 
 /// The one shape of all array operands, and none where there are none. Shape where two differ.
@@ -64,16 +81,7 @@ pub fn agreed(alloc: Global, shapes: &[Extents]) -> Result<Extents, Stop>
 {
     match shapes {
         [] => Ok(Items::new(alloc)),
-        [first, more @ ..] => {
-            let mut last = first;
-            for shape in more {
-                if !same_extents(last.as_slice(), shape.as_slice()) {
-                    return Err(Stop::from(FaultName::Shape));
-                }
-                last = shape;
-            }
-            Ok(Items::from_slice(alloc, last.as_slice())?)
-        }
+        [first, more @ ..] => agreed_on(alloc, first, more),
     }
 }
 

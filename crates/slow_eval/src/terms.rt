@@ -1,13 +1,14 @@
 //! The second stage of a step: each operation of rank above 0 as one map over all active places, operands before operators.
 
-ghost use Rattle.std.specs.Prelude.{◌≡◌, ◌≤◌, ◌^◌, length, IfOk, map, ◌/◌, ◌%◌};
+ghost use Rattle.std.specs.Prelude.{◌≡◌, ◌≤◌, ◌<◌, ◌^◌, ◌/◌, ◌%◌, length, map, IfOk};
 ghost use Rattle.std.specs.List.{All};
+ghost use Rattle.ws_base.specs.Outcomes as outcomes;
 ghost use Rattle.ws_space.specs.Sections as sections;
 ghost use Rattle.ws_space.specs.Subscripts as subscripts;
 ghost use Rattle.ws_space.specs.Values as space;
 ghost use Rattle.array_meaning.specs.Stage2 as stage2;
-ghost use Rattle.slow_eval.specs.Made.{Gives, Along};
-ghost use Rattle.slow_eval.specs.Limits.{IsInteger, IsSmallPick, IsSmallTerm};
+ghost use Rattle.slow_eval.specs.Made.{Gives, IsAlong};
+ghost use Rattle.slow_eval.specs.Limits.{IsSmallPick, IsSmallTerm};
 ghost use Rattle.slow_eval.specs.Lists as lists;
 
 use crate::maps::{binary_map, call_map, same_value, unary_map};
@@ -19,7 +20,7 @@ use array_meaning::{Pick, Term};
 use sqlite_items::Items;
 use std::alloc::{AllocError, Global};
 use ws_base::Trouble;
-use ws_space::{Dim, ELEMENT_LIMIT, Triplet};
+use ws_space::{Dim, Triplet};
 
 // ---- columns of subscripts
 
@@ -125,8 +126,7 @@ pub fn values(alloc: Global, t: &Term, places: &[u32]) -> Result<Items<i64>, Sto
     requires small { IsSmallTerm t.now }
     requires few { length places.now ≤ 2 ^ 32 }
     ensures value { Gives result (stage2.values t.now places.now) }
-    ensures along { Along (length places.now) (stage2.values t.now places.now) }
-    ensures integers { IfOk result (All IsInteger) }
+    ensures along { IsAlong result (length places.now) }
 {
     match t {
         Term::Scalar(value) => Ok(same_value(alloc, *value, places)?),
@@ -155,7 +155,8 @@ pub fn values(alloc: Global, t: &Term, places: &[u32]) -> Result<Items<i64>, Sto
 fn all_values(alloc: Global, ts: &[Term], places: &[u32]) -> Result<Items<Items<i64>>, Stop>
     requires small { All IsSmallTerm ts.now }
     requires few { length places.now ≤ 2 ^ 32 }
-    ensures { Gives result (lists.all_values ts.now places.now) }
+    ensures value { Gives result (lists.all_values ts.now places.now) }
+    ensures along { IfOk result (All (λ column. length column ≡ length places.now)) }
 {
     let mut columns = Items::new(alloc);
     'each: for t in ts {
@@ -170,7 +171,8 @@ fn all_values(alloc: Global, ts: &[Term], places: &[u32]) -> Result<Items<Items<
 fn columns(alloc: Global, picks: &[Pick], places: &[u32]) -> Result<Items<Items<i64>>, Stop>
     requires small { All IsSmallPick picks.now }
     requires few { length places.now ≤ 2 ^ 32 }
-    ensures { Gives result (lists.columns picks.now places.now) }
+    ensures value { Gives result (lists.columns picks.now places.now) }
+    ensures along { IfOk result (All (λ column. length column ≡ length places.now)) }
 {
     let mut columns = Items::new(alloc);
     let mut rest = Items::from_slice(alloc, places)?;
@@ -202,29 +204,28 @@ fn column(alloc: Global, pick: &Pick, places: &[u32]) -> Result<Items<i64>, Stop
 
 // ---- whole values and targets
 
-/// The stop of operations over all places, whose elements count from 1.
-fn later(stop: Stop) -> Stop {
-    match stop {
-        Stop::Memory => Stop::Memory,
-        Stop::Failed(trouble) => Stop::Failed(Trouble {
-            element: trouble.element + 1,
-            name: trouble.name,
-        }),
+/// A fault in operations over all places, whose elements count from 1.
+fn later(trouble: Trouble) -> Trouble
+    requires { trouble.element < 4294967295 }
+    ensures { result ≡ outcomes.later trouble }
+{
+    Trouble {
+        element: trouble.element + 1,
+        name: trouble.name,
     }
 }
 
 /// A value with all its places active: conformance, and then the second stage.
 pub fn whole(alloc: Global, t: &Term) -> Result<Items<i64>, Stop>
     requires { IsSmallTerm t.now }
-    ensures value { Gives result (stage2.whole t.now) }
-    ensures few { IfOk result (λ values. length values ≤ ELEMENT_LIMIT) }
-    ensures integers { IfOk result (All IsInteger) }
+    ensures { Gives result (stage2.whole t.now) }
 {
     let shape = agreed(alloc, operands(alloc, t)?.as_slice())?;
     let places = all_places(alloc, shape.as_slice())?;
     match values(alloc, t, places.as_slice()) {
         Ok(values) => Ok(values),
-        Err(stop) => Err(later(stop)),
+        Err(Stop::Memory) => Err(Stop::Memory),
+        Err(Stop::Failed(trouble)) => Err(Stop::Failed(later(trouble))),
     }
 }
 
