@@ -1,9 +1,9 @@
 //! The place of an element (Fortran 2018, 9.5.3.3), and the elements at columns of subscripts.
 
-ghost use Rattle.std.specs.Prelude.{◌≡◌, ◌≤◌, ◌<◌, ◌+◌, ◌*◌, ◌^◌, length, IfOk, Some, None, if◌then◌else◌};
+ghost use Rattle.std.specs.Prelude.{◌≡◌, ◌≤◌, ◌<◌, ◌+◌, ◌*◌, ◌^◌, length, true, false, IfOk, MatchOption};
 ghost use Rattle.std.specs.List.{All};
 ghost use Rattle.ws_base.specs.Outcomes.{each, rows};
-ghost use Rattle.ws_space.specs.Shapes as shapes;
+ghost use Rattle.ws_space.specs.Shapes as spec;
 ghost use Rattle.ws_space.specs.Shapes.{extents_of, distance};
 ghost use Rattle.ws_space.specs.Values as space;
 ghost use Rattle.ws_space.specs.Sections as sections;
@@ -14,55 +14,70 @@ ghost use Rattle.slow_eval.specs.Limits.{IsFew};
 ghost use Rattle.slow_eval.specs.Lists.{element_in};
 
 use crate::maps::{fails, keep, row};
-use crate::names::state_of;
+use crate::names::allocated;
 use crate::shapes::dims_of;
 use crate::stop::Stop;
 use sqlite_items::Items;
 use std::alloc::Global;
 use ws_base::FaultName;
-use ws_space::{ArrayValue, Dim, ELEMENT_LIMIT, Var, VarState};
+use ws_space::{ArrayValue, Dim, ELEMENT_LIMIT, Var};
 
 /// The last subscript of a dimension.
 pub fn upper(dim: Dim) -> i128
-    ensures { result ≡ shapes.upper dim }
+    ensures { result ≡ spec.upper dim }
 {
     i128::from(dim.lower) + i128::from(dim.extent) - 1
 }
 
 pub fn is_within(dim: Dim, subscript: i128) -> bool
-    ensures { result ≡ shapes.within dim subscript }
+    ensures { result ≡ spec.within dim subscript }
 {
     i128::from(dim.lower) <= subscript && subscript <= upper(dim)
 }
 
 /// How far a subscript is above the lower bound, where it is within the dimension.
 fn offset(dim: Dim, subscript: i64) -> Option<u64>
-    ensures { result ≡ (if shapes.within dim subscript then Some (distance dim.lower subscript) else None) }
+    ensures { MatchOption result (spec.within dim subscript ≡ false) (λ far. (spec.within dim subscript ≡ true) × (far ≡ distance dim.lower subscript)) }
 {
-    if is_within(dim, i128::from(subscript)) {
-        Some((i128::from(subscript) - i128::from(dim.lower)) as u64)
+    let far = i128::from(subscript) - i128::from(dim.lower);
+    if far < 0 {
+        return None;
+    }
+    let far = far.unsigned_abs();
+    if far < u128::from(dim.extent) {
+        Some(far as u64)
     } else {
         None
     }
+}
+
+/// `inner` in a row of `extent`, and `outer` rows before.
+fn onto(inner: u64, extent: u64, outer: u32) -> u32
+    requires { inner + extent * outer < 65536 }
+    ensures { result ≡ inner + extent * outer }
+{
+    (inner + extent * u64::from(outer)) as u32
 }
 
 /// The place of the element with these subscripts, from 0. Bounds where one is out of bounds. An array has at most three
 /// dimensions, so the recursion is as deep.
 pub fn place(dims: &[Dim], subscripts: &[i64]) -> Result<u32, FaultName>
     requires { IsFew (extents_of dims.now) }
-    ensures value { result ≡ shapes.place dims.now subscripts.now }
-    ensures below { IfOk result (λ place. place < shapes.size (extents_of dims.now)) }
+    ensures value { result ≡ spec.place dims.now subscripts.now }
+    ensures below { IfOk result (λ place. place < spec.size (extents_of dims.now)) }
 {
-    match (dims, subscripts) {
-        ([], _) => Ok(0),
-        (_, []) => Err(FaultName::Bounds),
-        ([dim, dims @ ..], [subscript, subscripts @ ..]) => {
-            let Some(offset) = offset(*dim, *subscript) else {
-                return Err(FaultName::Bounds);
-            };
-            let place = place(dims, subscripts)?;
-            Ok((offset + dim.extent * u64::from(place)) as u32)
-        }
+    match dims {
+        [] => Ok(0),
+        [dim, dims @ ..] => match subscripts {
+            [] => Err(FaultName::Bounds),
+            [subscript, subscripts @ ..] => {
+                let Some(offset) = offset(*dim, *subscript) else {
+                    return Err(FaultName::Bounds);
+                };
+                let rest = place(dims, subscripts)?;
+                Ok(onto(offset, dim.extent, rest))
+            }
+        },
     }
 }
 
@@ -141,9 +156,9 @@ pub fn elements_over(
     requires columns { All (λ column. length column ≡ length places.now) columns.now }
     ensures { Gives result (each (element_of (space.state_of vars.now name.now)) (rows places.now columns.now)) }
 {
-    match state_of(vars, name) {
-        Some(VarState::Array(array)) => elements_at(alloc, array, places, columns),
-        _ => fails(alloc, FaultName::Unallocated, places),
+    match allocated(vars, name) {
+        Ok(array) => elements_at(alloc, array, places, columns),
+        Err(fault) => fails(alloc, fault, places),
     }
 }
 
@@ -160,8 +175,8 @@ pub fn targets_over(
     requires columns { All (λ column. length column ≡ length places.now) columns.now }
     ensures { Gives result (each (place_in (space.state_of vars.now name.now)) (rows places.now columns.now)) }
 {
-    match state_of(vars, name) {
-        Some(VarState::Array(array)) => places_at(alloc, array, places, columns),
-        _ => fails(alloc, FaultName::Unallocated, places),
+    match allocated(vars, name) {
+        Ok(array) => places_at(alloc, array, places, columns),
+        Err(fault) => fails(alloc, fault, places),
     }
 }
