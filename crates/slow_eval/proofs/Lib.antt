@@ -10,6 +10,9 @@ mod Chains
 mod Integers
 mod SmallTerms
 mod Variables
+mod Weights
+mod TermValues
+mod Stepped
 mod OperandShapes
 mod WalkForms
 mod SmallWalk
