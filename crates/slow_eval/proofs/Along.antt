@@ -1,5 +1,5 @@
 -- There are as many values as places, and a fault comes at one of the places.
-use Rattle.std.proofs.Common.{◌≡◌, refl, sym, ap, ◌∙◌, ℕ, zero, suc, ◌<◌, List, [], ◌∷◌, map, length, All, Result, Ok, Err, ℤ, pos, arith}
+use Rattle.std.proofs.Common.{◌≡◌, refl, sym, ap, ◌∙◌, ℕ, zero, suc, ◌<◌, List, [], ◌∷◌, map, length, All, Option, Some, None, IfSome, Result, Ok, Err, ℤ, pos, arith}
 use Rattle.std.specs.Prelude.{◌/◌, ◌%◌, ◌+ℤ◌}
 use Rattle.std.proofs.lemmas.List.Elements.{All-nil, All-cons}
 use Rattle.ws_base.specs.declared.fault.FaultName.{FaultName}
@@ -17,7 +17,7 @@ use Rattle.array_meaning.specs.declared.term.Pick.{Pick}
 use Rattle.array_meaning.specs.declared.term.Pick.TheVariants.{One, Full, Range, Vector}
 use Rattle.array_meaning.specs.declared.term.Pick.TheBlock.{Row_of-Term as Terms, end_of-Term as end_terms, more_of-Term as more_terms, hidden-the_row-Pick-0, hidden-the_row-Term-2, Row_of-Pick as Picks, end_of-Pick as end_picks, more_of-Pick as more_picks}
 use Rattle.array_meaning.specs.Terms.{unary_term, binary_term}
-use Rattle.array_meaning.specs.Stage2.{vector_extent, operands, values, all_values, columns, targets}
+use Rattle.array_meaning.specs.Stage2.{vector_extent, operands, values, all_values, columns, array_of, targets}
 use Rattle.slow_eval.specs.declared.stop.Stop.{Stop}
 use Rattle.slow_eval.specs.declared.stop.Stop.TheVariants.{Memory, Failed}
 use Rattle.slow_eval.specs.Made.{Gives, IsAlong}
@@ -101,8 +101,14 @@ mutual
       column-along (length at) (values t (here n at)) (columns ps (beyond n at)) (rw (← same) (values-along t (here n at)))
       (further (length at) (length (beyond n at)) (columns ps (beyond n at)) (map-length (λ p. p / n) at) (columns-along ps (beyond n at)))
 
-pub targets-along : {m : _} (a : ArrayValue) (ps : Picks m) (at : List ℕ) → Along (length at) (columns ps at >>= (λ cs. each (place (dims a.shape)) (rows at cs)))
-targets-along a ps at = rows-along (place (dims a.shape)) at (columns ps at) (columns-along ps at)
+-- the targets of a section
+targets-along : (t : Term) (at : List ℕ) → IfSome (array_of t) (λ _. Along (length at) (targets t at))
+targets-along (Scalar v) at = tt
+targets-along (Listed xs) at = tt
+targets-along (Section' a _ ps) at = rows-along (place (dims a.shape)) at (columns ps at) (columns-along ps at)
+targets-along (unary_term op t) at = tt
+targets-along (binary_term op t u) at = tt
+targets-along (Call' word _ ts) at = tt
 
 -- ---- over lists
 
@@ -121,3 +127,10 @@ is_along (Err (Failed t)) n outcome g h = rw g at h
 
 pub all_along : (cs : List (List ℤ)) (n : ℕ) (outcome : Staged (List (List ℤ))) → outcome ≡ Ok cs → AllAlong n outcome → All (λ c. length c ≡ n) cs
 all_along cs n outcome g h = rw g at h
+
+if_section : (o : Option ArrayValue) (r : Result (List ℕ) Stop) (n : ℕ) (outcome : Staged (List ℕ)) → Gives r outcome → IfSome o (λ _. Along n outcome) → IfSome o (λ _. IsAlong r n)
+if_section None r n outcome g h = tt
+if_section (Some a) r n outcome g h = is_along r n outcome g h
+
+pub targets_along_of : (t : Term) (at : List ℕ) (r : Result (List ℕ) Stop) → Gives r (targets t at) → IfSome (array_of t) (λ _. IsAlong r (length at))
+targets_along_of t at r g = if_section (array_of t) r (length at) (targets t at) g (targets-along t at)

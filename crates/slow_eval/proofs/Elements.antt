@@ -47,6 +47,9 @@ pub places_from-length : (k n : ℕ) → length (places_from k n) ≡ n
 places_from-length k zero = refl
 places_from-length k (suc n) = ap suc (places_from-length (suc k) n)
 
+pub few_places : (e : Extents) (at at' : List ℕ) → size e ≤ 65536 → at ≡ all_places e → at' ≡ at → length at' ≤ 65536
+few_places e at at' h is same = omega (arith, ap length same, ap length is, places_from-length 0 (size e), h)
+
 -- ---- agreement
 
 pub differ : (a b : Extents) → 1 ≤ length a → length b ≡ 0 → false ≡ same_extents a b

@@ -1,7 +1,8 @@
 -- The first stage of a small expression leaves a small term.
 use Rattle.std.proofs.Common.{◌≡◌, refl, sym, ap, ◌∙◌, ℕ, zero, suc, ◌≤◌, Bool, true, false, List, [], ◌∷◌, map, length, All, Option, Some, None, IfSome, Result, Ok, Err, IfOk, ℤ, pos, negsuc, bytes_eq, arith}
-use Rattle.std.specs.Prelude.{◌||◌, nat_lt, if◌then◌else◌}
+use Rattle.std.specs.Prelude.{◌||◌, ◌==◌, nat_lt, if◌then◌else◌}
 use Rattle.std.proofs.lemmas.Bool.{lt-ltb, ltb-false}
+use Rattle.std.proofs.lemmas.Bool.Decides.{nat_tests}
 use Rattle.std.proofs.lemmas.List.Elements.{All-nil, All-cons, All-head, All-tail, All-weaker}
 use Rattle.ws_base.specs.declared.fault.FaultName.TheVariants.{TooLarge}
 use Rattle.ws_base.specs.declared.op.BinOp.{BinOp}
@@ -9,7 +10,7 @@ use Rattle.ws_base.specs.declared.op.UnOp.{UnOp}
 use Rattle.ws_base.specs.declared.op.UnOp.TheVariants as un
 use Rattle.ws_base.specs.declared.op.CallWord.{CallWord}
 use Rattle.ws_base.specs.declared.op.CallWord.TheVariants as word
-use Rattle.ws_base.specs.Numbers.{default_half, truth, unary_value, binary_value, call_value, reduction}
+use Rattle.ws_base.specs.Numbers.{default_half, exact, truth, unary_value, binary_value, call_value, reduction}
 use Rattle.ws_base.specs.Outcomes.{Staged, trouble, scalar_of, ◌>>=◌}
 use Rattle.ws_space.specs.declared.shape.Dim.{Dim}
 use Rattle.ws_space.specs.declared.shape.TheConstants.{ELEMENT_LIMIT}
@@ -35,7 +36,7 @@ use Rattle.array_meaning.specs.declared.term.Term.TheVariants.{Scalar, Listed, S
 use Rattle.array_meaning.specs.declared.term.Pick.{Pick}
 use Rattle.array_meaning.specs.declared.term.Pick.TheVariants as pick
 use Rattle.array_meaning.specs.Terms.{terms_open, unary_term, binary_term}
-use Rattle.array_meaning.specs.Stage1.{constant_of, allocated, variable, named, whole_array, checked_pick, checked, picked, selected, section_or_element, only, designator, unary_on, binary_on, with_scalar, scalars, elemental_on, is_reduction, reduced, called, is_allocated, inquired, is_inquiry, name_in, dimension_in, known, is_designator, value_of, subscript, walk, walks, picks, one_pick, end}
+use Rattle.array_meaning.specs.Stage1.{constant_of, allocated, variable, named, whole_array, checked_pick, checked, picked, selected, section_or_element, only, designator, unary_on, binary_on, with_scalar, scalars, elemental_on, is_reduction, reduced, called, is_allocated, dimension, inquired, is_inquiry, name_in, dimension_in, known, is_designator, value_of, subscript, walk, walks, picks, one_pick, end}
 use Rattle.array_meaning.specs.Stage2.{whole}
 use Rattle.slow_eval.specs.Limits.{IsInteger, IsSmall, AreSmall, AreSmallSubs, IsSmallSub, IsWorld, IsFew, IsSmallArray, IsSmallTerm, IsSmallPick}
 use Rattle.slow_eval.proofs.Chains.{after_each, after_fact, scalar_of-keeps}
@@ -46,12 +47,13 @@ use Rattle.slow_eval.proofs.Variables.{IsHeldByEither, state_of-held}
 
 -- ---- variables and constants
 
+zero_or_one : (n : ℕ) → (n == 0 || n == 1) ≡ true → n ≤ 1
+zero_or_one n h = grind (arith, nat_tests)
+
 pub value-integer : (b : Bool) (z : ℤ) → is_value b z ≡ true → IsInteger z
 value-integer false z h = h
-value-integer true (pos zero) h = refl
-value-integer true (pos (suc zero)) h = refl
-value-integer true (pos (suc (suc n))) h = let f : ⊥ = cc in absurd f
-value-integer true (negsuc n) h = let f : ⊥ = cc in absurd f
+value-integer true (pos n) h = lt-ltb n default_half (omega (arith, zero_or_one n h))
+value-integer true (negsuc n) h = let f : ⊥ = grind arith in absurd f
 
 pub array-small : (b : Bool) (a : ArrayValue) → IsArray b a → IsSmallArray a
 array-small b a h = record { few = h.shape.few; values = All-weaker (λ z. is_value b z ≡ true) IsInteger (value-integer b) a.values h.values }
@@ -196,8 +198,8 @@ size-integer ds (Some k) = exact-integer (pos (dim_at ds k).extent)
 
 inquired-integer : (w : CallWord) (s : VarState) (k : Option ℕ) → IfOk (inquired w s k) IsInteger
 inquired-integer word.Size s k = after_each _ (allocated s) _ (λ a. scalar_of-keeps (size_value (dims a.shape) k) (size-integer (dims a.shape) k))
-inquired-integer word.Lbound s k = after_each _ (allocated s) _ (λ a. scalar_of-keeps _ (exact-integer (lower_bound _)))
-inquired-integer word.Ubound s k = after_each _ (allocated s) _ (λ a. scalar_of-keeps _ (exact-integer (upper_bound _)))
+inquired-integer word.Lbound s k = after_each _ (allocated s) _ (λ a. let d = dim_at (dims a.shape) (dimension k) in scalar_of-keeps (exact default_half (lower_bound d)) (exact-integer (lower_bound d)))
+inquired-integer word.Ubound s k = after_each _ (allocated s) _ (λ a. let d = dim_at (dims a.shape) (dimension k) in scalar_of-keeps (exact default_half (upper_bound d)) (exact-integer (upper_bound d)))
 inquired-integer word.Allocated s k = truth-integer (is_allocated s)
 inquired-integer word.Abs s k = refl
 inquired-integer word.Mod s k = refl

@@ -1,6 +1,6 @@
 //! The second stage of a step: each operation of rank above 0 as one map over all active places, operands before operators.
 
-ghost use Rattle.std.specs.Prelude.{◌≡◌, ◌≤◌, ◌<◌, ◌^◌, ◌/◌, ◌%◌, length, map, IfOk};
+ghost use Rattle.std.specs.Prelude.{◌≡◌, ◌≤◌, ◌<◌, ◌^◌, ◌/◌, ◌%◌, length, map, IfOk, IfSome};
 ghost use Rattle.std.specs.List.{All};
 ghost use Rattle.ws_base.specs.Outcomes as outcomes;
 ghost use Rattle.ws_space.specs.Sections as sections;
@@ -235,6 +235,7 @@ pub fn targets(alloc: Global, t: &Term, places: &[u32]) -> Result<Items<u32>, St
     requires small { IsSmallTerm t.now }
     requires few { length places.now ≤ 2 ^ 32 }
     ensures value { Gives result (stage2.targets t.now places.now) }
+    ensures along { IfSome (stage2.array_of t.now) (λ _. IsAlong result (length places.now)) }
 {
     match t {
         Term::Section(array, picks) => {
