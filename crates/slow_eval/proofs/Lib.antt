@@ -10,6 +10,9 @@ mod Chains
 mod Integers
 mod SmallTerms
 mod Variables
+mod ExprWeights
+mod Scalars
+mod Checks
 mod Weights
 mod TermValues
 mod Stepped

@@ -1,9 +1,8 @@
 -- The first stage of a small expression leaves a small term.
 use Rattle.std.proofs.Common.{◌≡◌, refl, sym, ap, ◌∙◌, ℕ, zero, suc, ◌≤◌, Bool, true, false, List, [], ◌∷◌, map, length, All, Option, Some, None, IfSome, Result, Ok, Err, IfOk, ℤ, pos, negsuc, bytes_eq, arith}
-use Rattle.std.specs.Prelude.{◌||◌, ◌==◌, nat_lt, if◌then◌else◌}
+use Rattle.std.specs.Prelude.{nat_lt, if◌then◌else◌}
 use Rattle.std.proofs.lemmas.Bool.{lt-ltb, ltb-false}
-use Rattle.std.proofs.lemmas.Bool.Decides.{nat_tests}
-use Rattle.std.proofs.lemmas.List.Elements.{All-nil, All-cons, All-head, All-tail, All-weaker}
+use Rattle.std.proofs.lemmas.List.Elements.{All-nil, All-cons, All-head, All-tail}
 use Rattle.ws_base.specs.declared.fault.FaultName.TheVariants.{TooLarge}
 use Rattle.ws_base.specs.declared.op.BinOp.{BinOp}
 use Rattle.ws_base.specs.declared.op.UnOp.{UnOp}
@@ -22,7 +21,6 @@ use Rattle.ws_space.specs.Inquiries.{dim_at, size_value, lower_bound, upper_boun
 use Rattle.ws_space.specs.Sections.{checked_subscript, checked_triplet, limited, omitted_upper}
 use Rattle.ws_space.specs.Shapes.{Extents, dims, extents_of, size}
 use Rattle.ws_space.specs.Values.{element, state_of, held}
-use Rattle.ws_space.specs.WellFormed.{is_value, IsArray, IsHeld, IsWellFormedVar}
 use Rattle.ws_tree.specs.declared.expr.Expr.{Expr}
 use Rattle.ws_tree.specs.declared.expr.Expr.TheVariants.{Number, TooWide, TooDeep, Truth, Named, Part', Call', Vector'}
 use Rattle.ws_tree.specs.declared.expr.Sub.{Sub}
@@ -38,25 +36,14 @@ use Rattle.array_meaning.specs.declared.term.Pick.TheVariants as pick
 use Rattle.array_meaning.specs.Terms.{terms_open, unary_term, binary_term}
 use Rattle.array_meaning.specs.Stage1.{constant_of, allocated, variable, named, whole_array, checked_pick, checked, picked, selected, section_or_element, only, designator, unary_on, binary_on, with_scalar, scalars, elemental_on, is_reduction, reduced, called, is_allocated, dimension, inquired, is_inquiry, name_in, dimension_in, known, is_designator, value_of, subscript, walk, walks, picks, one_pick, end}
 use Rattle.array_meaning.specs.Stage2.{whole}
-use Rattle.slow_eval.specs.Limits.{IsInteger, IsSmall, AreSmall, AreSmallSubs, IsSmallSub, IsWorld, IsFew, IsSmallArray, IsSmallTerm, IsSmallPick}
+use Rattle.slow_eval.specs.Limits.{IsInteger, IsSmallState, IsSmall, AreSmall, AreSmallSubs, IsSmallSub, IsWorld, IsFew, IsSmallArray, IsSmallTerm, IsSmallPick}
 use Rattle.slow_eval.proofs.Chains.{after_each, after_fact, scalar_of-keeps}
 use Rattle.slow_eval.proofs.Forms.{is_small_section, is_small_call}
 use Rattle.slow_eval.proofs.Integers.{exact-integer, truth-integer, unary-integer, binary-integer, call-integer, reduction-integer}
 use Rattle.slow_eval.proofs.SmallTerms.{element-integer, whole-small}
-use Rattle.slow_eval.proofs.Variables.{IsHeldByEither, state_of-held}
+use Rattle.slow_eval.proofs.Variables.{state_of-small}
 
 -- ---- variables and constants
-
-zero_or_one : (n : ℕ) → (n == 0 || n == 1) ≡ true → n ≤ 1
-zero_or_one n h = grind (arith, nat_tests)
-
-pub value-integer : (b : Bool) (z : ℤ) → is_value b z ≡ true → IsInteger z
-value-integer false z h = h
-value-integer true (pos n) h = lt-ltb n default_half (omega (arith, zero_or_one n h))
-value-integer true (negsuc n) h = let f : ⊥ = grind arith in absurd f
-
-pub array-small : (b : Bool) (a : ArrayValue) → IsArray b a → IsSmallArray a
-array-small b a h = record { few = h.shape.few; values = All-weaker (λ z. is_value b z ≡ true) IsInteger (value-integer b) a.values h.values }
 
 constant_at : (c : Bool) (v : ℤ) (o : Option ℤ) → IsInteger v → IfSome o IsInteger → IfSome (if c then Some v else o) IsInteger
 constant_at true v o h k = h
@@ -78,18 +65,18 @@ full-small (d ∷ ds) = All-cons IsSmallPick (pick.Full d) (map pick.Full ds) tt
 pub whole_array-small : (a : ArrayValue) → IsSmallArray a → IsSmallTerm (whole_array a)
 whole_array-small a h = is_small_section a (map pick.Full (dims a.shape)) h (rw picked-full h.few) (full-small (dims a.shape))
 
-variable-small : (s : VarState) → IsHeldByEither s → IfOk (variable s) IsSmallTerm
-variable-small (state.Scalar v) h = value-integer h.0 v h.1
-variable-small (state.Array a) h = whole_array-small a (array-small h.0 a h.1)
+variable-small : (s : VarState) → IsSmallState s → IfOk (variable s) IsSmallTerm
+variable-small (state.Scalar v) h = h
+variable-small (state.Array a) h = whole_array-small a h
 variable-small (state.Unallocated r) h = tt
 
-named-small : (o : Option ℤ) (s : VarState) → IfSome o IsInteger → IsHeldByEither s → IfOk (named o s) IsSmallTerm
+named-small : (o : Option ℤ) (s : VarState) → IfSome o IsInteger → IsSmallState s → IfOk (named o s) IsSmallTerm
 named-small (Some v) s h k = h
 named-small None s h k = variable-small s k
 
-pub allocated-small : (s : VarState) → IsHeldByEither s → IfOk (allocated s) IsSmallArray
+pub allocated-small : (s : VarState) → IsSmallState s → IfOk (allocated s) IsSmallArray
 allocated-small (state.Scalar v) h = tt
-allocated-small (state.Array a) h = array-small h.0 a h.1
+allocated-small (state.Array a) h = h
 allocated-small (state.Unallocated r) h = tt
 
 -- ---- designators
@@ -261,9 +248,9 @@ mutual
   walk-small w is TooWide h = refl
   walk-small w is TooDeep h = refl
   walk-small w is (Truth b) h = truth-integer b
-  walk-small w is (Named x) h = named-small (constant_of w.constants x) (state_of w.vars x) (constant_of-integer w.constants x is.constants) (state_of-held w.vars x is.vars)
+  walk-small w is (Named x) h = named-small (constant_of w.constants x) (state_of w.vars x) (constant_of-integer w.constants x is.constants) (state_of-small w.vars x is.vars)
   walk-small w is (Part' x _ ss) h =
-      after_fact IsSmallArray _ (allocated (state_of w.vars x)) _ (allocated-small (state_of w.vars x) (state_of-held w.vars x is.vars)) (λ a small.
+      after_fact IsSmallArray _ (allocated (state_of w.vars x)) _ (allocated-small (state_of w.vars x) (state_of-small w.vars x is.vars)) (λ a small.
       after_fact (All IsSmallPick) _ (picks w (dims a.shape) ss) _ (picks-small w is (dims a.shape) ss h) (λ ps are. designator-small a ps small are))
   walk-small w is (Call' word _ es) h =
       call-at (is_inquiry word) (inquired word (state_of w.vars (name_in es)) (dimension_in es)) (walks w es >>= called word) (inquired-integer word (state_of w.vars (name_in es)) (dimension_in es))

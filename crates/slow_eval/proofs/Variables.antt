@@ -10,32 +10,29 @@ use Rattle.ws_space.specs.declared.state.VarState.{VarState}
 use Rattle.ws_space.specs.declared.state.VarState.TheVariants.{Scalar, Array, Unallocated}
 use Rattle.ws_space.specs.declared.state.Var.{Var}
 use Rattle.ws_space.specs.Values.{state_of}
-use Rattle.ws_space.specs.WellFormed.{IsHeld, IsWellFormedVar, elements}
+use Rattle.ws_space.specs.WellFormed.{elements}
 use Rattle.array_meaning.specs.Stage1.{allocated}
 use Rattle.array_meaning.specs.Forall.{element_of, place_in}
 use Rattle.slow_eval.specs.declared.stop.Stop.{Stop}
+use Rattle.slow_eval.specs.Limits.{IsSmallState, IsVar}
 use Rattle.slow_eval.specs.Made.{Gives}
 use Rattle.slow_eval.proofs.Columns.{rows-length}
 
--- what a variable of either type holds
-abbrev pub IsHeldByEither : VarState → Type 0
-IsHeldByEither s = (b : Bool) × IsHeld b s
-
-state_at : (c : Bool) (s t : VarState) → IsHeldByEither s → IsHeldByEither t → IsHeldByEither (if c then s else t)
+state_at : (c : Bool) (s t : VarState) → IsSmallState s → IsSmallState t → IsSmallState (if c then s else t)
 state_at true s t h k = h
 state_at false s t h k = k
 
-pub state_of-held : (vs : List Var) (x : List ℕ) → All IsWellFormedVar vs → IsHeldByEither (state_of vs x)
-state_of-held [] x is = (false, refl)
-state_of-held (v ∷ vs) x is = state_at (bytes_eq v.name x) v.state (state_of vs x) (v.truth, All-head IsWellFormedVar v vs is) (state_of-held vs x (All-tail IsWellFormedVar v vs is))
+pub state_of-small : (vs : List Var) (x : List ℕ) → All IsVar vs → IsSmallState (state_of vs x)
+state_of-small [] x is = refl
+state_of-small (v ∷ vs) x is = state_at (bytes_eq v.name x) v.state (state_of vs x) (All-head IsVar v vs is) (state_of-small vs x (All-tail IsVar v vs is))
 
 pub array_of : (s : VarState) (a : ArrayValue) → allocated s ≡ Ok a → s ≡ Array a
 array_of (Scalar v) a e = let f : ⊥ = cc in absurd f
 array_of (Array b) a e = let same : b ≡ a = cc in ap Array same
 array_of (Unallocated r) a e = let f : ⊥ = cc in absurd f
 
-pub few-elements : (vs : List Var) (x : List ℕ) (a : ArrayValue) → All IsWellFormedVar vs → allocated (state_of vs x) ≡ Ok a → elements a.shape ≤ 65536
-few-elements vs x a is e = let h = subst IsHeldByEither (array_of (state_of vs x) a e) (state_of-held vs x is) in h.1.shape.few
+pub few-elements : (vs : List Var) (x : List ℕ) (a : ArrayValue) → All IsVar vs → allocated (state_of vs x) ≡ Ok a → elements a.shape ≤ 65536
+few-elements vs x a is e = let h = subst IsSmallState (array_of (state_of vs x) a e) (state_of-small vs x is) in h.few
 
 abbrev fault_in : {A : Type 0} → Staged A → FaultName
 fault_in (Ok x) = Unallocated'

@@ -4,8 +4,11 @@ use Rattle.std.specs.List.{All}
 use Rattle.ws_base.specs.Numbers.{in_range, default_half}
 use Rattle.ws_space.specs.declared.shape.TheConstants.{ELEMENT_LIMIT}
 use Rattle.ws_space.specs.declared.state.ArrayValue.{ArrayValue}
+use Rattle.ws_space.specs.declared.state.VarState.{VarState}
+use Rattle.ws_space.specs.declared.state.VarState.TheVariants as state
+use Rattle.ws_space.specs.declared.state.Var.{Var}
 use Rattle.ws_space.specs.Shapes.{Extents, size}
-use Rattle.ws_space.specs.WellFormed.{elements, IsWellFormedVar}
+use Rattle.ws_space.specs.WellFormed.{elements}
 use Rattle.ws_tree.specs.declared.expr.Expr.{Expr}
 use Rattle.ws_tree.specs.declared.expr.Expr.TheVariants.{Number, Part', Call', Vector'}
 use Rattle.ws_tree.specs.declared.expr.Sub.{Sub}
@@ -57,12 +60,6 @@ abbrev mutual
 
 -- ---- what an expression reads
 
-pub record IsWorld (w : World) : Type 0 where
-  pub vars : All IsWellFormedVar w.vars
-  pub constants : All (λ c. IsInteger c.value) w.constants
-
--- ---- terms
-
 -- no more elements than an array may have
 abbrev pub IsFew : Extents → Type 0
 IsFew e = size e ≤ ELEMENT_LIMIT
@@ -70,6 +67,21 @@ IsFew e = size e ≤ ELEMENT_LIMIT
 pub record IsSmallArray (a : ArrayValue) : Type 0 where
   pub few : elements a.shape ≤ ELEMENT_LIMIT
   pub values : All IsInteger a.values
+
+-- the limits of what a variable holds, whatever its type
+abbrev pub IsSmallState : VarState → Type 0
+IsSmallState (state.Scalar z) = IsInteger z
+IsSmallState (state.Array a) = IsSmallArray a
+IsSmallState (state.Unallocated r) = Unit {0}
+
+abbrev pub IsVar : Var → Type 0
+IsVar v = IsSmallState v.state
+
+pub record IsWorld (w : World) : Type 0 where
+  pub vars : All IsVar w.vars
+  pub constants : All (λ c. IsInteger c.value) w.constants
+
+-- ---- terms
 
 abbrev mutual
   -- Each value is a default integer, and no array, section or list has too many elements.

@@ -1,6 +1,6 @@
 //! Whole variables, sections and array elements (Fortran 2018, 9.5).
 
-ghost use Rattle.std.specs.Prelude.{◌≡◌, ◌≤◌, ◌<◌, length, IfOk, MatchResult, Ok};
+ghost use Rattle.std.specs.Prelude.{◌≡◌, ◌≤◌, ◌<◌, length, IfOk, MatchResult, Ok, pos, ◌+ℤ◌, ◌-ℤ◌, ◌*ℤ◌};
 ghost use Rattle.std.specs.List.{All};
 ghost use Rattle.ws_base.specs.Outcomes.{trouble};
 ghost use Rattle.ws_space.specs.Sections as sections;
@@ -71,15 +71,23 @@ fn check_subscript(dim: Dim, subscript: i64) -> Result<(), FaultName>
     }
 }
 
+/// The last of so many subscripts.
+fn last(triplet: &Triplet, count: u64) -> i128
+    ensures { result ≡ triplet.now.l +ℤ pos count *ℤ triplet.now.s -ℤ triplet.now.s }
+{
+    let stride = i128::from(triplet.s);
+    i128::from(triplet.l) + i128::from(count) * stride - stride
+}
+
 /// Whether a triplet that selects something begins and ends within the dimension.
 fn ends_within(dim: Dim, triplet: &Triplet) -> bool
     ensures { result ≡ sections.ends_within dim triplet.now }
 {
     let count = count(triplet);
-    let first = i128::from(triplet.l);
-    let stride = i128::from(triplet.s);
-    let last = first + i128::from(count) * stride - stride;
-    count == 0 || (is_within(dim, first) && is_within(dim, last))
+    if count == 0 {
+        return true;
+    }
+    is_within(dim, i128::from(triplet.l)) && is_within(dim, last(triplet, count))
 }
 
 fn check_triplet(dim: Dim, triplet: &Triplet) -> Result<(), FaultName>

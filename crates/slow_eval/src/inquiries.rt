@@ -15,7 +15,7 @@ use crate::places::upper;
 use crate::value::{in_kind, truth};
 use array_meaning::World;
 use ws_base::{CallWord, FaultName};
-use ws_space::{Dim, ELEMENT_LIMIT, Shape, VarState, size};
+use ws_space::{Dim, ELEMENT_LIMIT, Shape, Var, VarState, size};
 use ws_tree::Expr;
 
 const UNUSED: Dim = Dim {
@@ -101,10 +101,14 @@ fn bound_at(shape: &Shape, dimension: Option<u32>) -> Dim
     }
 }
 
-fn is_allocated(state: Option<&VarState>) -> bool {
-    match state {
+fn is_allocated(vars: &[Var], name: &str) -> bool
+    ensures { result ≡ stage1.is_allocated (values.state_of vars.now name.now) }
+{
+    match state_of(vars, name) {
+        None => true,
+        Some(VarState::Scalar(_)) => true,
+        Some(VarState::Array(_)) => true,
         Some(VarState::Unallocated { .. }) => false,
-        _ => true,
     }
 }
 
@@ -127,7 +131,7 @@ pub fn inquiry(world: &World, word: CallWord, es: &[Expr]) -> Result<i64, FaultN
             let dim = bound_at(&allocated(vars, name)?.shape, dimension);
             in_kind(upper_bound(dim))
         }
-        CallWord::Allocated => Ok(truth(is_allocated(state_of(vars, name)))),
+        CallWord::Allocated => Ok(truth(is_allocated(vars, name))),
         _ => Ok(0),
     }
 }

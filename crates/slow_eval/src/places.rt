@@ -7,10 +7,10 @@ ghost use Rattle.ws_space.specs.Shapes as spec;
 ghost use Rattle.ws_space.specs.Shapes.{extents_of, distance};
 ghost use Rattle.ws_space.specs.Values as space;
 ghost use Rattle.ws_space.specs.Sections as sections;
-ghost use Rattle.ws_space.specs.WellFormed.{elements, IsWellFormedVar};
+ghost use Rattle.ws_space.specs.WellFormed.{elements};
 ghost use Rattle.array_meaning.specs.Forall.{element_of, place_in};
 ghost use Rattle.slow_eval.specs.Made.{Gives};
-ghost use Rattle.slow_eval.specs.Limits.{IsFew};
+ghost use Rattle.slow_eval.specs.Limits.{IsFew, IsVar};
 ghost use Rattle.slow_eval.specs.Lists.{element_in};
 
 use crate::maps::{fails, keep, row};
@@ -151,7 +151,7 @@ pub fn elements_over(
     places: &[u32],
     columns: &[Items<i64>],
 ) -> Result<Items<i64>, Stop>
-    requires vars { All IsWellFormedVar vars.now }
+    requires vars { All IsVar vars.now }
     requires few { length places.now ≤ 2 ^ 32 }
     requires columns { All (λ column. length column ≡ length places.now) columns.now }
     ensures { Gives result (each (element_of (space.state_of vars.now name.now)) (rows places.now columns.now)) }
@@ -170,7 +170,7 @@ pub fn targets_over(
     places: &[u32],
     columns: &[Items<i64>],
 ) -> Result<Items<u32>, Stop>
-    requires vars { All IsWellFormedVar vars.now }
+    requires vars { All IsVar vars.now }
     requires few { length places.now ≤ 2 ^ 32 }
     requires columns { All (λ column. length column ≡ length places.now) columns.now }
     ensures { Gives result (each (place_in (space.state_of vars.now name.now)) (rows places.now columns.now)) }
