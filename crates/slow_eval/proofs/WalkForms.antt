@@ -2,25 +2,22 @@
 use Rattle.std.proofs.Common.{◌≡◌, refl, sym, ap, ◌∙◌, ℕ, ◌≤◌, false, true, List, [], ◌∷◌, ◌++◌, map, length, drop, All, Option, Some, None, IfSome, Ok, append-nil, ℤ, pos, arith}
 use mathlib.Core.Path.{fun_ext}
 use Rattle.std.proofs.Math.ListN.{drop_of_length-le}
-use Rattle.std.proofs.lemmas.List.Elements.{All-nil, All-cons}
+use Rattle.std.proofs.lemmas.List.Elements.{All-nil, All-cons, All-head, All-tail}
 use Rattle.ws_base.specs.declared.op.CallWord.{CallWord}
 use Rattle.ws_base.specs.declared.op.UnOp.{UnOp}
 use Rattle.ws_base.specs.declared.op.BinOp.{BinOp}
 use Rattle.ws_base.specs.Outcomes.{◌>>=◌}
 use Rattle.ws_space.specs.declared.shape.Dim.{Dim}
 use Rattle.ws_space.specs.Shapes.{dims}
-use Rattle.ws_space.specs.Sections.{omitted_upper}
 use Rattle.ws_space.specs.Values.{state_of}
 use Rattle.ws_tree.specs.declared.expr.Expr.{Expr}
 use Rattle.ws_tree.specs.declared.expr.Expr.TheVariants.{Part, Call, Vector, Named, Number, TooWide, TooDeep, Truth, Paren, Unary, Binary}
 use Rattle.ws_tree.specs.declared.expr.Expr.TheBlock.{hidden-the_row-Expr-1, hidden-the_row-Sub-0}
 use Rattle.ws_tree.specs.declared.expr.Sub.{Sub}
-use Rattle.ws_tree.specs.declared.expr.Sub.TheVariants as sub
 use Rattle.ws_tree.specs.Grammatical.{count}
 use Rattle.ws_tree.specs.Opened.{trees_open}
 use Rattle.array_meaning.specs.declared.world.World.{World}
 use Rattle.array_meaning.specs.declared.term.Pick.{Pick}
-use Rattle.array_meaning.specs.declared.term.Pick.TheVariants as pick
 use Rattle.array_meaning.specs.declared.term.Term.{Term}
 use Rattle.array_meaning.specs.declared.term.Term.TheVariants.{Listed, Section}
 use Rattle.array_meaning.specs.Stage1.{walk, walks, picks, one_pick, allocated, selected, designator, is_inquiry, inquired, known, called, value_of, unary_on, binary_on, name_in, dimension_in}
@@ -45,6 +42,11 @@ pub small_exprs : (es : List Expr) → AreSmall (hidden-the_row-Expr-1 es) → A
 unfolding trees_open
 small_exprs [] h = All-nil IsSmall
 small_exprs (e ∷ es) h = All-cons IsSmall e es h.0 (small_exprs es h.1)
+
+pub are_small_exprs : (es : List Expr) → All IsSmall es → AreSmall (hidden-the_row-Expr-1 es)
+unfolding trees_open
+are_small_exprs [] h = tt
+are_small_exprs (e ∷ es) h = (All-head IsSmall e es h, are_small_exprs es (All-tail IsSmall e es h))
 
 pub small_subs : (ss : List Sub) → AreSmallSubs (hidden-the_row-Sub-0 ss) → All IsSmallSub ss
 unfolding trees_open
@@ -87,33 +89,3 @@ picks-none w (s ∷ ss) = refl
 
 pub picks-done : (w : World) (ds : List Dim) (ss : List Sub) (i : ℕ) (made : List Pick) → length ds ≤ i → lists.then_rest made (lists.picks w (drop i ds) ss) ≡ Ok made
 picks-done w ds ss i made h = rw (drop_of_length-le ds h, picks-none w ss) (ap Ok (append-nil made))
-
--- ---- parts of triplets
-
-abbrev AreSmallOptions : Option Expr → Option Expr → Option Expr → Type 0
-AreSmallOptions l u s = IfSome l IsSmall × IfSome u IsSmall × IfSome s IsSmall
-
-pub small_range : (l u s : Option Expr) → IsSmallSub (sub.Range l u s) → AreSmallOptions l u s
-unfolding trees_open
-small_range None None None h = (tt, tt, tt)
-small_range None None (Some z) h = (tt, tt, h.2)
-small_range None (Some y) None h = (tt, h.1, tt)
-small_range None (Some y) (Some z) h = (tt, h.1, h.2)
-small_range (Some x) None None h = (h.0, tt, tt)
-small_range (Some x) None (Some z) h = (h.0, tt, h.2)
-small_range (Some x) (Some y) None h = (h.0, h.1, tt)
-small_range (Some x) (Some y) (Some z) h = (h.0, h.1, h.2)
-
-range_at : (w : World) (d : Dim) (l u s : Option Expr) → one_pick w d (sub.Range l u s) ≡ (lists.end w (Ok d.lower) l >>= (λ x. lists.end w (omitted_upper d) u >>= (λ y. lists.end w (Ok (pos 1)) s >>= (λ z. Ok (pick.Range (record { l = x; u = y; s = z }))))))
-unfolding trees_open
-range_at w d None None None = refl
-range_at w d None None (Some z) = refl
-range_at w d None (Some y) None = refl
-range_at w d None (Some y) (Some z) = refl
-range_at w d (Some x) None None = refl
-range_at w d (Some x) None (Some z) = refl
-range_at w d (Some x) (Some y) None = refl
-range_at w d (Some x) (Some y) (Some z) = refl
-
-pub range_is : (w : World) (d : Dim) (l u s : Option Expr) → one_pick w d (sub.Range l u s) ≡ (lists.end w (Ok d.lower) l >>= (λ x. lists.end w (omitted_upper d) u >>= (λ y. lists.end w (Ok (pos 1)) s >>= (λ z. Ok (pick.Range (record { l = x; u = y; s = z }))))))
-range_is = range_at
