@@ -10,6 +10,7 @@ mod Chains
 mod Integers
 mod SmallTerms
 mod Variables
+mod LeftSides
 mod WalkValues
 mod ExprWeights
 mod Scalars

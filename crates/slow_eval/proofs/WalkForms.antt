@@ -53,6 +53,11 @@ unfolding trees_open
 small_subs [] h = All-nil IsSmallSub
 small_subs (s ∷ ss) h = All-cons IsSmallSub s ss h.0 (small_subs ss h.1)
 
+pub are_small_subs : (ss : List Sub) → All IsSmallSub ss → AreSmallSubs (hidden-the_row-Sub-0 ss)
+unfolding trees_open
+are_small_subs [] h = tt
+are_small_subs (s ∷ ss) h = (All-head IsSmallSub s ss h, are_small_subs ss (All-tail IsSmallSub s ss h))
+
 -- ---- the walk at each form
 
 pub walk_part : (w : World) (x : List ℕ) (ss : List Sub) → walk w (Part x ss) ≡ (allocated (state_of w.vars x) >>= (λ a. lists.picks w (dims a.shape) ss >>= (λ ps. designator a ps)))
