@@ -95,7 +95,6 @@ pub fn call_map(
 }
 
 /// A fault at the first of these places.
-#[tactic(auto, using(crate::proofs::Made::each_fault))]
 pub fn fails<T: Drop>(alloc: Global, name: FaultName, places: &[u32]) -> Result<Items<T>, Stop>
     ensures { Gives result (each (λ _. Err name) places.now) }
 {
@@ -106,7 +105,6 @@ pub fn fails<T: Drop>(alloc: Global, name: FaultName, places: &[u32]) -> Result<
 }
 
 /// One answer for every place.
-#[tactic(auto, using(crate::proofs::Made::each_value))]
 pub fn everywhere(
     alloc: Global,
     answer: Result<i64, FaultName>,
