@@ -6,3 +6,6 @@ pub mod Exponents
 pub mod ValueSteps
 pub mod PartSteps
 pub mod JoinSteps
+pub mod Fitting
+pub mod StrandSteps
+pub mod Joining

@@ -9,14 +9,14 @@ use Rattle.phase_ops.specs.Phases.{Event, Loads, Divides, Makes, Gives, makes, g
 use Rattle.act_eval.specs.declared.site.Worth.TheVariants as worth
 use Rattle.act_eval.specs.Sites.{IsWorth, IsFound, part_given}
 
-makes_join : (xs ys : List Event) → makes (xs ++ ys) ≡ makes xs ++ makes ys
+pub makes_join : (xs ys : List Event) → makes (xs ++ ys) ≡ makes xs ++ makes ys
 makes_join [] ys = refl
 makes_join (Loads c ∷ xs) ys = makes_join xs ys
 makes_join (Divides z ∷ xs) ys = makes_join xs ys
 makes_join (Gives z ∷ xs) ys = makes_join xs ys
 makes_join (Makes e ∷ xs) ys = ap (λ (l : List Effect). e ∷ l) (makes_join xs ys)
 
-gives_join : (xs ys : List Event) → gives (xs ++ ys) ≡ gives xs ++ gives ys
+pub gives_join : (xs ys : List Event) → gives (xs ++ ys) ≡ gives xs ++ gives ys
 gives_join [] ys = refl
 gives_join (Loads c ∷ xs) ys = gives_join xs ys
 gives_join (Divides z ∷ xs) ys = gives_join xs ys

@@ -16,7 +16,7 @@ use Rattle.act_eval.specs.Sites.{Small, Rest, MayLook, IsWorth, named_cells}
 use Rattle.act_eval.specs.declared.site.Worth.TheVariants as worth
 use Rattle.act_eval.proofs.OpSteps.{makes_plain, divides_plain}
 
-gives_plain : (cs : List ℕ) (ds : List ℤ) (es : List Event) → gives (plain cs ds es) ≡ gives es
+pub gives_plain : (cs : List ℕ) (ds : List ℤ) (es : List Event) → gives (plain cs ds es) ≡ gives es
 gives_plain [] [] es = refl
 gives_plain [] (d ∷ ds) es = gives_plain [] ds es
 gives_plain (c ∷ cs) ds es = gives_plain cs ds es
@@ -26,9 +26,6 @@ pub record Left (may : List ℕ) (whole es : List Event) : Type 0 where
   pub makes_are : makes whole ≡ makes es
   pub gives_are : gives whole ≡ gives es
   pub look : MayLook may es
-
-pub left_all : (may : List ℕ) (es : List Event) → MayLook may es → Left may es es
-left_all may es h = record { makes_are = refl; gives_are = refl; look = h }
 
 -- no op of a Part has an effect
 is_done : Turn → Type 0

@@ -9,6 +9,7 @@ ghost use Rattle.phase_ops.specs.Partials.{merged, total};
 ghost use Rattle.phase_ops.specs.Phases.{cell_value, partial_cells, joined};
 ghost use Rattle.phase_ops.specs.Free.{In};
 ghost use Rattle.act_eval.specs.Sites.{Small, Led};
+ghost use Rattle.act_eval.specs.Strands.{JoinBegins};
 
 use crate::site::Site;
 use phase_ops::Effect;
@@ -17,7 +18,6 @@ use scan_parts::Merge;
 /// The partial of all that these cells hold, from the last cell on.
 fn merged_cells<M: Merge, H, S: Site<H>>(site: &S, hand: &mut H, first: u32, count: u32) -> M
     requires belongs { S.belongs site.now hand.old }
-    requires limits { first + count < 4294967296 }
     requires may { (k : ℕ) → k < count → In (first + k) (S.view site.now hand.old).may }
     requires fits { (k : ℕ) → k ≤ count → FitsSigned w64 (merged default_half M.kind (map (cell_value (S.view site.now hand.old).cells) (partial_cells (first + (count - k)) k))) }
     ensures value { M.part result ≡ merged default_half M.kind (map (cell_value (S.view site.now hand.old).cells) (partial_cells first count)) }
@@ -26,8 +26,8 @@ fn merged_cells<M: Merge, H, S: Site<H>>(site: &S, hand: &mut H, first: u32, cou
 {
     let mut part = M::unit();
     for at in 0..count {
-        let cell = first + (count - 1 - at);
-        let value = site.look(hand, u64::from(cell));
+        let cell = u64::from(first) + u64::from(count - 1 - at);
+        let value = site.look(hand, cell);
         part = M::of_cell(value).merge(part);
     }
     part
@@ -51,12 +51,9 @@ pub fn run_join<M: Merge, H, S: Site<H>>(
     slot: u32,
 ) -> M
     requires belongs { S.belongs site.now hand.old }
-    requires limits { first + count < 4294967296 }
-    requires may { (k : ℕ) → k < count → In (first + k) (S.view site.now hand.old).may }
-    requires fits { (k : ℕ) → k ≤ count → FitsSigned w64 (merged default_half M.kind (map (cell_value (S.view site.now hand.old).cells) (partial_cells (first + (count - k)) k))) }
-    requires next { (more : List Effect) × ((S.view site.now hand.old).left ≡ joined slot (total default_half M.kind (merged default_half M.kind (map (cell_value (S.view site.now hand.old).cells) (partial_cells first count)))) ∷ more) }
+    requires begins { (more : List Effect) × JoinBegins (S.view site.now hand.old) M.kind first count slot more }
     ensures led { Led (S.view site.now hand.old) (S.view site.now hand.new) }
-    ensures left { (more : List Effect) → (S.view site.now hand.old).left ≡ joined slot (total default_half M.kind (merged default_half M.kind (map (cell_value (S.view site.now hand.old).cells) (partial_cells first count)))) ∷ more → (S.view site.now hand.new).left ≡ more }
+    ensures left { (more : List Effect) → JoinBegins (S.view site.now hand.old) M.kind first count slot more → (S.view site.now hand.new).left ≡ more }
     ensures part { M.part result ≡ merged default_half M.kind (map (cell_value (S.view site.now hand.old).cells) (partial_cells first count)) }
     ensures belongs { S.belongs site.now hand.new }
 {

@@ -9,6 +9,7 @@ ghost use Rattle.phase_ops.specs.Partials.{part_of, merge as spec_merge};
 ghost use Rattle.phase_ops.specs.Phases.{Event, each_from, value_events, summed};
 ghost use Rattle.act_eval.specs.declared.site.Worth.TheVariants as spec_worth;
 ghost use Rattle.act_eval.specs.Sites.{MayLook, IsWorth, IsFound, Led, part_given};
+ghost use Rattle.act_eval.specs.Strands.{PartBegins};
 
 use crate::ops::same;
 use crate::site::{Site, Worth};
@@ -71,11 +72,9 @@ pub fn run_part<M: Merge, H, S: Site<H>>(
     requires belongs { S.belongs site.now hand.old }
     requires limits { (from + count ≤ 65536) × (length act.now.ops ≤ 1048576) }
     requires room { length act.now.ops ≤ length registers.old }
-    requires may { (i : ℕ) → i < count → MayLook (S.view site.now hand.old).may (value_events act.now (S.view site.now hand.old).cells (from + i)) }
-    requires fits { (k : ℕ) → k ≤ count → FitsSigned w64 (part_given M.kind (each_from (value_events act.now (S.view site.now hand.old).cells) (from + (count - k)) k)) }
-    requires next { (more : List Effect) × ((S.view site.now hand.old).left ≡ summed M.kind cell (each_from (value_events act.now (S.view site.now hand.old).cells) from count) ++ more) }
+    requires begins { (more : List Effect) × PartBegins (S.view site.now hand.old) M.kind act.now from count cell more }
     ensures led { Led (S.view site.now hand.old) (S.view site.now hand.new) }
-    ensures left { (more : List Effect) → (S.view site.now hand.old).left ≡ summed M.kind cell (each_from (value_events act.now (S.view site.now hand.old).cells) from count) ++ more → (S.view site.now hand.new).left ≡ more }
+    ensures left { (more : List Effect) → PartBegins (S.view site.now hand.old) M.kind act.now from count cell more → (S.view site.now hand.new).left ≡ more }
     ensures part { M.part result ≡ part_given M.kind (each_from (value_events act.now (S.view site.now hand.old).cells) from count) }
     ensures long { length registers.new ≡ length registers.old }
     ensures belongs { S.belongs site.now hand.new }

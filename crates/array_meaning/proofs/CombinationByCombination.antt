@@ -12,7 +12,8 @@ use Rattle.ws_tree.specs.declared.expr.Expr.TheVariants.{Number, TooWide, TooDee
 use Rattle.ws_tree.specs.declared.expr.Sub.TheVariants as sub
 use Rattle.ws_tree.specs.Trees.{Exprs, end_exprs, more_exprs, Subs, end_subs, more_subs, paren, unary, binary}
 use Rattle.array_meaning.specs.declared.world.World.{World}
-use Rattle.array_meaning.specs.Stage1.{is_inquiry, inquired, name_in, dimension_in}
+use Rattle.ws_types.specs.Operations.{is_inquiry}
+use Rattle.array_meaning.specs.Stage1.{inquired, name_in, dimension_in}
 use Rattle.array_meaning.specs.Forall.{Combination, name_value, element_of, without_element, inquiries, over, over_all, over_subs}
 use Rattle.array_meaning.specs.Laws.{got, first_and, together, only_one, alone_over, ValuesCombinationByCombination}
 use Rattle.array_meaning.proofs.PlaceByPlace.{then_maybe, together-there, got-each, each-on, in_rows, rows_of, column-on, no_columns, one_alone, pairs}

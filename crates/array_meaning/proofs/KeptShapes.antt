@@ -23,7 +23,8 @@ use Rattle.array_meaning.specs.declared.term.Term.{Term}
 use Rattle.array_meaning.specs.Stage2.{operands, values, targets, array_of}
 use Rattle.array_meaning.specs.Stage1.{walk}
 use Rattle.array_meaning.specs.Assign.{Target, selection, movable, target, target_name, step_shape, replaced_in, carried_out}
-use Rattle.array_meaning.specs.Where.{Mask, Assignment, Step, mask_terms, operands_of, splits_after, last_line, run_part, run_step, run_steps, where_steps, run_where}
+use Rattle.ws_types.specs.Steps.{Mask, Assignment, Step, where_steps}
+use Rattle.array_meaning.specs.Where.{mask_terms, operands_of, splits_after, last_line, run_part, run_step, run_steps, run_where}
 use Rattle.array_meaning.specs.Forall.{Combination, combination, header, mask_places, over, over_targets, replaced_over, first_line, forall_part, forall_block, run_forall}
 use Rattle.array_meaning.specs.Laws.{KeepsShapes, WhereKeepsShapes, ForallKeepsShapes, dims_held, AssignmentKeepsShapes, MaskedAssignmentKeepsShapes, ForallAssignmentKeepsShapes}
 use Rattle.array_meaning.proofs.Chains.{after_each, after_fact, at_line-keeps}

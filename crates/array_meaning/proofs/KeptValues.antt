@@ -62,11 +62,11 @@ stored_from-length k ts xs (old ∷ olds) = let rest = stored_from-length (suc k
 
 -- ---- what a variable holds after a replacement
 
-kept-held : (b : Bool) (ds : List Dim) (xs : List ℤ) → IsArray b (record { shape = shape_of ds; values = xs }) → IsHeld b (kept ds xs)
+pub kept-held : (b : Bool) (ds : List Dim) (xs : List ℤ) → IsArray b (record { shape = shape_of ds; values = xs }) → IsHeld b (kept ds xs)
 kept-held b [] xs is = absurd (let h : 0 < 0 = is.rank in omega arith)
 kept-held b (d ∷ ds) xs is = is
 
-filled-array : (b : Bool) (a : ArrayValue) (ts : List ℕ) (xs : List ℤ) → IsArray b a → All (Passes b) xs → IsHeld b (filled a ts xs)
+pub filled-array : (b : Bool) (a : ArrayValue) (ts : List ℕ) (xs : List ℤ) → IsArray b a → All (Passes b) xs → IsHeld b (filled a ts xs)
 filled-array b a ts xs is h =
     let P : Shape → Type 0 = λ s. IsArray b (record { shape = s; values = stored a.values ts xs }) in
     kept-held b (dims a.shape) (stored a.values ts xs) (subst P (sym is.unused) (record {
@@ -78,7 +78,7 @@ filled-array b a ts xs is h =
       values = stored_from-passes b 0 ts xs a.values h is.values;
     }))
 
-filled-held : (b : Bool) (s : VarState) (a : ArrayValue) (ts : List ℕ) (xs : List ℤ) → IsHeld b s → Holds s a → All (Passes b) xs → IsHeld b (filled a ts xs)
+pub filled-held : (b : Bool) (s : VarState) (a : ArrayValue) (ts : List ℕ) (xs : List ℤ) → IsHeld b s → Holds s a → All (Passes b) xs → IsHeld b (filled a ts xs)
 filled-held b (Scalar v) a ts xs is same h =
     let P : ArrayValue → Type 0 = λ c. IsHeld b (filled c ts xs) in
     subst P (sym same) (value_at-passes b (stored (v ∷ []) ts xs) 0 (stored_from-passes b 0 ts xs (v ∷ []) h (All-cons (Passes b) v [] is (All-nil (Passes b)))))
@@ -87,7 +87,7 @@ filled-held b (Array c) a ts xs is same h =
     subst P (sym same) (filled-array b c ts xs is h)
 filled-held b (Unallocated r) a ts xs is same h = absurd same
 
-unless_repeated-held : (b : Bool) (line : ℕ) (places : List ℕ) (o : Option ℕ) (s : VarState) → IsHeld b s → IfOk (unless_repeated line places o s) (IsHeld b)
+pub unless_repeated-held : (b : Bool) (line : ℕ) (places : List ℕ) (o : Option ℕ) (s : VarState) → IsHeld b s → IfOk (unless_repeated line places o s) (IsHeld b)
 unless_repeated-held b line places None s h = h
 unless_repeated-held b line places (Some k) s h = tt
 
@@ -95,7 +95,7 @@ in_known : (b : Bool) (line : ℕ) (places : List ℕ) (s : VarState) (o : Optio
     IsHeld b s → Holds s a → All (Passes b) xs → o ≡ Some a → IfOk (replaced_in line places o ts xs) (IsHeld b)
 in_known b line places s o a ts xs is same h e = rw e (unless_repeated-held b line places (first_repeat ts) (filled a ts xs) (filled-held b s a ts xs is same h))
 
-carried_out-held : (b : Bool) (w : World) (line : ℕ) (right : Expr) (r : Term) (e : Extents) (places : List ℕ) (old : VarState) (g : Target) →
+pub carried_out-held : (b : Bool) (w : World) (line : ℕ) (right : Expr) (r : Term) (e : Extents) (places : List ℕ) (old : VarState) (g : Target) →
     Selects old g → IsHeld b old → GivesValues b r → IfOk (carried_out w line right r e places g) (IsHeld b)
 carried_out-held b w line right r e places old (movable s) h is gives = absurd h
 carried_out-held b w line right r e places old (selection t) h is gives =
@@ -145,7 +145,7 @@ masked w ss ms a is typed =
     (carried_out-held b w a.line a.right r e (active all e a.under) old t sel (state_of-held w.vars (target_name a.left) is) gives)
     (λ s held. with_state-kept w.vars (target_name a.left) s held is))))))
 
-over-held : (b : Bool) (line : ℕ) (places : List ℕ) (old : VarState) (ts : List ℕ) (xs : List ℤ) → IsHeld b old → All (Passes b) xs → IfOk (replaced_over line places old ts xs) (IsHeld b)
+pub over-held : (b : Bool) (line : ℕ) (places : List ℕ) (old : VarState) (ts : List ℕ) (xs : List ℤ) → IsHeld b old → All (Passes b) xs → IfOk (replaced_over line places old ts xs) (IsHeld b)
 over-held b line places (Array a) ts xs is h = unless_repeated-held b line places (first_repeat ts) (filled a ts xs) (filled-array b a ts xs is h)
 over-held b line places (Scalar v) ts xs is h = is
 over-held b line places (Unallocated r) ts xs is h = is

@@ -25,7 +25,8 @@ use Rattle.ws_tree.specs.declared.stmt.Body.TheVariants.{Assign}
 use Rattle.ws_tree.specs.Trees.{Exprs, end_exprs, more_exprs, Subs, end_subs, more_subs, Stmts, end_stmts, more_stmts, paren, unary, binary}
 use Rattle.array_meaning.specs.declared.world.World.{World}
 use Rattle.array_meaning.specs.declared.world.Constant.{Constant}
-use Rattle.array_meaning.specs.Stage1.{constant_of, walk, value_of, is_inquiry, inquired, name_in, dimension_in}
+use Rattle.ws_types.specs.Operations.{is_inquiry}
+use Rattle.array_meaning.specs.Stage1.{constant_of, walk, value_of, inquired, name_in, dimension_in}
 use Rattle.array_meaning.specs.Assign.{target_name, with_target}
 
 -- ---- the header

@@ -26,7 +26,8 @@ use Rattle.array_meaning.specs.Terms.{Terms, end_terms, more_terms, unary_term, 
 use Rattle.array_meaning.specs.Stage2.{values, targets, array_of}
 use Rattle.array_meaning.specs.Stage1.{walk}
 use Rattle.array_meaning.specs.Assign.{selection, target_name, may_move, assign, carried_out}
-use Rattle.array_meaning.specs.Where.{Mask, Assignment, run_assignment, run_where}
+use Rattle.ws_types.specs.Steps.{Mask, Assignment}
+use Rattle.array_meaning.specs.Where.{run_assignment, run_where}
 use Rattle.array_meaning.specs.Forall.{Combination, over, over_targets, forall_assign, run_forall}
 
 -- ---- an assignment changes nothing outside its targets

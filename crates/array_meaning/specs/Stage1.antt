@@ -21,6 +21,8 @@ use Rattle.ws_tree.specs.declared.expr.Expr.TheVariants.{Number, TooWide, TooDee
 use Rattle.ws_tree.specs.declared.expr.Sub.{Sub}
 use Rattle.ws_tree.specs.declared.expr.Sub.TheVariants as sub
 use Rattle.ws_tree.specs.Trees.{Exprs, end_exprs, more_exprs, Subs, end_subs, more_subs, Given, absent, given, paren, unary, binary}
+use Rattle.ws_types.specs.Operations.{is_inquiry, is_reduction}
+use Rattle.ws_types.specs.Sections.{is_designator}
 use Rattle.array_meaning.specs.declared.world.World.{World}
 use Rattle.array_meaning.specs.declared.world.Constant.{Constant}
 use Rattle.array_meaning.specs.declared.term.Term.{Term}
@@ -127,16 +129,6 @@ elemental_on w ts (Some vs) = do
   Ok (Scalar x)
 elemental_on w ts None = Ok (Call w ts)
 
-abbrev pub is_reduction : CallWord → Bool
-is_reduction word.Sum = true
-is_reduction word.Product = true
-is_reduction word.Minval = true
-is_reduction word.Maxval = true
-is_reduction word.Count = true
-is_reduction word.Any = true
-is_reduction word.All = true
-is_reduction _ = false
-
 -- all of the argument's own conformance and stage 2, and then the exact total
 abbrev pub reduced : CallWord → List Term → Staged Term
 reduced w [] = Ok (Scalar (pos 0))
@@ -172,13 +164,6 @@ inquired word.Ubound s k = do
 inquired word.Allocated s k = Ok (truth (is_allocated s))
 inquired _ s k = Ok (pos 0)
 
-abbrev pub is_inquiry : CallWord → Bool
-is_inquiry word.Size = true
-is_inquiry word.Lbound = true
-is_inquiry word.Ubound = true
-is_inquiry word.Allocated = true
-is_inquiry _ = false
-
 abbrev pub name_in : {m : _} → Exprs m → Name
 name_in (more_exprs (Named x) es) = x
 name_in _ = []
@@ -193,19 +178,6 @@ known r = do
   Ok (Scalar v)
 
 -- ---- subscripts
-
--- a section or constructor; parentheses and a plus in front of one are no operation
-abbrev pub is_section : Expr → Bool
-is_section (Part' x _ subs) = true
-is_section (Vector' _ es) = true
-is_section (paren e) = is_section e
-is_section (unary unop.Plus e) = is_section e
-is_section _ = false
-
--- a vector subscript that is not evaluated whole: a designator, as a whole array's name alone, or a constructor
-abbrev pub is_designator : Expr → Bool
-is_designator (Named x) = true
-is_designator e = is_section e
 
 abbrev pub value_of : Term → ℤ
 value_of (Scalar v) = v

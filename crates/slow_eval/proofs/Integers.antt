@@ -13,7 +13,8 @@ use Rattle.ws_base.specs.declared.op.UnOp.{UnOp}
 use Rattle.ws_base.specs.declared.op.UnOp.TheVariants as un
 use Rattle.ws_base.specs.declared.op.CallWord.{CallWord}
 use Rattle.ws_base.specs.declared.op.CallWord.TheVariants as word
-use Rattle.ws_base.specs.Numbers.{int_eq, truth, is_true, in_range, default_half, exact, unless_zero, power, floor_rem, int_min, int_max, least, greatest, count_of, sum_of, product_of, unary_value, binary_value, call_value, reduction}
+use Rattle.ws_base.specs.Numbers.{Exact, int_eq, truth, is_true, in_range, default_half, exact, unless_zero, power, floor_rem, int_min, int_max, least, greatest, count_of, sum_of, product_of, unary_value, binary_value, call_value, reduction}
+use Rattle.ws_base.specs.Outcomes.{scalar_of}
 use Rattle.ws_space.specs.Maps.{pair_value}
 use Rattle.slow_eval.specs.Limits.{IsInteger}
 
@@ -114,6 +115,10 @@ call-integer word.Size r is = refl
 call-integer word.Lbound r is = refl
 call-integer word.Ubound r is = refl
 call-integer word.Allocated r is = refl
+
+pub scalar_of-keeps : (r : Exact) → IfOk r IsInteger → IfOk (scalar_of r) IsInteger
+scalar_of-keeps (Ok z) h = h
+scalar_of-keeps (Err n) h = tt
 
 -- ---- reductions
 

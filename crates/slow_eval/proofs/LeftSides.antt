@@ -24,7 +24,7 @@ use Rattle.slow_eval.specs.declared.stop.Stop.TheVariants.{Memory, Failed}
 use Rattle.slow_eval.specs.Made.{Stops, Gives}
 use Rattle.slow_eval.specs.Limits.{IsInteger, IsSmall, IsSmallSub, IsWorld, IsFew, IsSmallState, IsSmallArray, IsSmallTerm, IsSmallPick}
 use Rattle.slow_eval.specs.Lists as lists
-use Rattle.slow_eval.proofs.Chains.{after_fact}
+use Rattle.array_meaning.proofs.Chains.{after_fact}
 use Rattle.slow_eval.proofs.Forms.{is_small_section}
 use Rattle.slow_eval.proofs.SmallWalk.{allocated-small, picks-small, selected-small, whole_array-small}
 use Rattle.slow_eval.proofs.TermValues.{stops_first}

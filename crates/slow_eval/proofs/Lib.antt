@@ -6,7 +6,6 @@ mod Columns
 mod Elements
 mod Forms
 pub mod Along
-mod Chains
 mod Integers
 mod SmallTerms
 mod Variables

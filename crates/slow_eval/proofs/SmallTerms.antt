@@ -18,7 +18,7 @@ use Rattle.array_meaning.specs.Terms.{unary_term, binary_term}
 use Rattle.array_meaning.specs.Stage2.{array_operand, operands, all_operands, extents, values, all_values, columns, whole}
 use Rattle.slow_eval.specs.Limits.{IsInteger, IsFew, IsSmallTerm, AreSmallTerms}
 use Rattle.slow_eval.proofs.Along.{Along, values-along}
-use Rattle.slow_eval.proofs.Chains.{after_each, after_fact}
+use Rattle.array_meaning.proofs.Chains.{after_each, after_fact}
 use Rattle.slow_eval.proofs.Elements.{places_from-length}
 use Rattle.slow_eval.proofs.Integers.{unary-integer, pair-integer, call-integer}
 

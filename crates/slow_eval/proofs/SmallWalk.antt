@@ -34,12 +34,14 @@ use Rattle.array_meaning.specs.declared.term.Term.TheVariants.{Scalar, Listed, S
 use Rattle.array_meaning.specs.declared.term.Pick.{Pick}
 use Rattle.array_meaning.specs.declared.term.Pick.TheVariants as pick
 use Rattle.array_meaning.specs.Terms.{terms_open, unary_term, binary_term}
-use Rattle.array_meaning.specs.Stage1.{constant_of, allocated, variable, named, whole_array, checked_pick, checked, picked, selected, section_or_element, only, designator, unary_on, binary_on, with_scalar, scalars, elemental_on, is_reduction, reduced, called, is_allocated, dimension, inquired, is_inquiry, name_in, dimension_in, known, is_designator, value_of, subscript, walk, walks, picks, one_pick, end}
+use Rattle.ws_types.specs.Operations.{is_reduction, is_inquiry}
+use Rattle.ws_types.specs.Sections.{is_designator}
+use Rattle.array_meaning.specs.Stage1.{constant_of, allocated, variable, named, whole_array, checked_pick, checked, picked, selected, section_or_element, only, designator, unary_on, binary_on, with_scalar, scalars, elemental_on, reduced, called, is_allocated, dimension, inquired, name_in, dimension_in, known, value_of, subscript, walk, walks, picks, one_pick, end}
 use Rattle.array_meaning.specs.Stage2.{whole}
 use Rattle.slow_eval.specs.Limits.{IsInteger, IsSmallState, IsSmall, AreSmall, AreSmallSubs, IsSmallSub, IsWorld, IsFew, IsSmallArray, IsSmallTerm, IsSmallPick}
-use Rattle.slow_eval.proofs.Chains.{after_each, after_fact, scalar_of-keeps}
+use Rattle.array_meaning.proofs.Chains.{after_each, after_fact}
 use Rattle.slow_eval.proofs.Forms.{is_small_section, is_small_call}
-use Rattle.slow_eval.proofs.Integers.{exact-integer, truth-integer, unary-integer, binary-integer, call-integer, reduction-integer}
+use Rattle.slow_eval.proofs.Integers.{scalar_of-keeps, exact-integer, truth-integer, unary-integer, binary-integer, call-integer, reduction-integer}
 use Rattle.slow_eval.proofs.SmallTerms.{element-integer, whole-small}
 use Rattle.slow_eval.proofs.Variables.{state_of-small}
 

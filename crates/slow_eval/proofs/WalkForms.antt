@@ -20,7 +20,8 @@ use Rattle.array_meaning.specs.declared.world.World.{World}
 use Rattle.array_meaning.specs.declared.term.Pick.{Pick}
 use Rattle.array_meaning.specs.declared.term.Term.{Term}
 use Rattle.array_meaning.specs.declared.term.Term.TheVariants.{Listed, Section}
-use Rattle.array_meaning.specs.Stage1.{walk, walks, picks, one_pick, allocated, selected, designator, is_inquiry, inquired, known, called, value_of, unary_on, binary_on, name_in, dimension_in}
+use Rattle.ws_types.specs.Operations.{is_inquiry}
+use Rattle.array_meaning.specs.Stage1.{walk, walks, picks, one_pick, allocated, selected, designator, inquired, known, called, value_of, unary_on, binary_on, name_in, dimension_in}
 use Rattle.array_meaning.specs.Assign.{Target, selection, target}
 use Rattle.slow_eval.specs.Limits.{IsSmall, AreSmall, AreSmallSubs, IsSmallSub}
 use Rattle.slow_eval.specs.Lists as lists

@@ -22,12 +22,13 @@ use Rattle.array_meaning.specs.declared.world.World.{World}
 use Rattle.array_meaning.specs.declared.term.Pick.{Pick}
 use Rattle.array_meaning.specs.declared.term.Term.{Term}
 use Rattle.array_meaning.specs.declared.term.Term.TheVariants.{Scalar, Listed}
-use Rattle.array_meaning.specs.Stage1.{constant_of, allocated, named, designator, is_inquiry, inquired, known, called, value_of, unary_on, binary_on, name_in, dimension_in, walk, walks}
+use Rattle.ws_types.specs.Operations.{is_inquiry}
+use Rattle.array_meaning.specs.Stage1.{constant_of, allocated, named, designator, inquired, known, called, value_of, unary_on, binary_on, name_in, dimension_in, walk, walks}
 use Rattle.slow_eval.specs.declared.stop.Stop.{Stop}
 use Rattle.slow_eval.specs.Made.{Stops, Gives}
 use Rattle.slow_eval.specs.Limits.{IsSmall, AreSmall, IsSmallSub, IsWorld, IsSmallTerm}
 use Rattle.slow_eval.specs.Lists as lists
-use Rattle.slow_eval.proofs.Chains.{after_fact}
+use Rattle.array_meaning.proofs.Chains.{after_fact}
 use Rattle.slow_eval.proofs.SmallWalk.{walk-small, walks-small}
 use Rattle.slow_eval.proofs.TermValues.{stops_first}
 use Rattle.slow_eval.proofs.WalkForms.{walks_list, walk_part, walk_call, walk_vector, small_part, small_call, small_vector, are_small_exprs}

@@ -4,6 +4,7 @@ ghost use Rattle.std.specs.Prelude.{◌≡◌, ◌≤◌, length, IfOk, IfSome, 
 ghost use Rattle.std.specs.List.{All};
 ghost use Rattle.ws_base.specs.Outcomes.{scalar_of};
 ghost use Rattle.ws_space.specs.Sections as sections;
+ghost use Rattle.ws_types.specs.Sections as typing;
 ghost use Rattle.array_meaning.specs.Forall as forall;
 ghost use Rattle.array_meaning.specs.Stage1 as stage1;
 ghost use Rattle.slow_eval.specs.Made.{Gives};
@@ -24,6 +25,7 @@ use std::alloc::{AllocError, Global};
 use ws_base::{BinOp, CallWord, FaultName, UnOp};
 use ws_space::{Dim, Triplet};
 use ws_tree::{Expr, Sub};
+use ws_types::is_reduction;
 
 // ---- operators and calls
 
@@ -66,21 +68,6 @@ fn scalars(alloc: Global, ts: &[Term]) -> Result<Option<Items<i64>>, AllocError>
         }
     }
     Ok(Some(values))
-}
-
-fn is_reduction(word: CallWord) -> bool
-    ensures { result ≡ stage1.is_reduction word }
-{
-    match word {
-        CallWord::Sum
-        | CallWord::Product
-        | CallWord::Minval
-        | CallWord::Maxval
-        | CallWord::Count
-        | CallWord::Any
-        | CallWord::All => true,
-        _ => false,
-    }
 }
 
 /// The exact reduction of all values of the argument.
@@ -157,7 +144,7 @@ fn omitted_upper(dim: Dim) -> Result<i32, FaultName>
 /// A section or a constructor. Parentheses and a plus in front of one are no operation.
 #[tactic(auto, unfolding(ws_tree::specs::Opened::trees_open))]
 fn is_section(e: &Expr) -> bool
-    ensures { result ≡ stage1.is_section e.now }
+    ensures { result ≡ typing.is_section e.now }
 {
     match e {
         Expr::Part(_, _) | Expr::Vector(_) => true,
@@ -169,7 +156,7 @@ fn is_section(e: &Expr) -> bool
 
 /// A vector subscript that is not evaluated whole.
 fn is_designator(e: &Expr) -> bool
-    ensures { result ≡ stage1.is_designator e.now }
+    ensures { result ≡ typing.is_designator e.now }
 {
     match e {
         Expr::Named(_) => true,

@@ -5,6 +5,7 @@ ghost use Rattle.ws_base.specs.Outcomes.{scalar_of};
 ghost use Rattle.ws_space.specs.Inquiries as inquiries;
 ghost use Rattle.ws_space.specs.Shapes as shapes;
 ghost use Rattle.ws_space.specs.Values as values;
+ghost use Rattle.ws_types.specs.Operations as operations;
 ghost use Rattle.array_meaning.specs.Stage1 as stage1;
 ghost use Rattle.ws_space.specs.WellFormed.{elements};
 ghost use Rattle.slow_eval.specs.Limits.{IsWorld};
@@ -24,7 +25,7 @@ const UNUSED: Dim = Dim {
 };
 
 pub fn is_inquiry(word: CallWord) -> bool
-    ensures { result ≡ stage1.is_inquiry word }
+    ensures { result ≡ operations.is_inquiry word }
 {
     match word {
         CallWord::Size | CallWord::Lbound | CallWord::Ubound | CallWord::Allocated => true,

@@ -11,3 +11,10 @@ pub mod Teams
 pub mod Machines
 pub mod Choices
 pub mod Sizes
+pub mod Scratches
+pub mod Rehearsals
+pub mod Entering
+pub mod Lengths
+pub mod Cores
+pub mod Shifts
+pub mod Places

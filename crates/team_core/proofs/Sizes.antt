@@ -57,7 +57,7 @@ summed_one : (b : Bool) (x y : Effect) → length (if b then x ∷ [] else y ∷
 summed_one true x y = omega arith
 summed_one false x y = omega arith
 
-strand_few : (p : Phase) (m : Cells) (chunk s : ℕ) → WellFormed p m chunk → length (strand_effects p m chunk s) ≤ 1099511627776
+pub strand_few : (p : Phase) (m : Cells) (chunk s : ℕ) → WellFormed p m chunk → length (strand_effects p m chunk s) ≤ 1099511627776
 strand_few (Set l b acts) m chunk s w = let h = acts_few 0 0 acts m (λ a j. (w.few_ops a j).0) in let f = w.few_acts in omega (arith, h, f)
 strand_few (Loop l b count acts) m chunk s w = let h = acts_few s 0 acts m (λ a j. (w.few_ops a j).0) in let f = w.few_acts in omega (arith, h, f)
 strand_few (Part l count act k t f) m chunk s w = let es = strand_events (Part l count act k t f) m chunk s in let h = summed_one (nat_lt (least_key (makes es)) none_yet) (Fault (least_key (makes es))) (Store (f + s) (word (merged default_half k (map (part_of default_half k) (gives es))))) in omega (arith, h)

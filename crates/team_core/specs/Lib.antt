@@ -3,4 +3,7 @@ pub mod Core
 pub mod Runs
 pub mod Laws
 pub mod Machines
-pub mod Copies
+pub mod Shifts
+pub mod Scratches
+pub mod Units
+pub mod Cores

@@ -6,11 +6,16 @@
 pub mod laws;
 mod machine;
 mod member;
+mod rehearsal;
+mod scratch;
 mod state;
 mod steps;
+mod team;
 #[cfg(test)]
 mod tests;
+mod units;
 
 pub use machine::{Machine, NotNow, UnitWork};
 pub use member::{MemberState, StepKind};
 pub use state::{CellList, CoreState, Counts, CountsList, Member, MemberList, Numbers};
+pub use team::Core;

@@ -25,11 +25,14 @@ pub trait UnitWork<P> {
 
     ghost entered: { Self → ℕ };
 
+    ghost made_for: { Self → P → Type 0 };
+
     ghost ready: { Self → P → Type 0 };
 
     /// Goes to a phase, which begins over these cells.
     fn enter(&mut self, plan: &P, phase: u64, cells: &[u64])
-        requires { Enters (course self.old plan.now) phase cells.now }
+        requires made { made_for self.old plan.now }
+        requires enters { Enters (course self.old plan.now) phase cells.now }
         ensures course { course self.new plan.now ≡ course self.old plan.now }
         ensures entered { entered self.new ≡ phase }
         ensures ready { ready self.new plan.now };
@@ -39,14 +42,17 @@ pub trait UnitWork<P> {
         requires { ready self.now plan.now }
         ensures { result ≡ (work_at (course self.now plan.now) (entered self.now)).units };
 
-    /// The next effect of the unit, of which so many are done, or none.
-    fn effect(&mut self, plan: &P, unit: u64, done: u64) -> Option<Effect>
+    /// The next effect of the member's unit, of which so many are done, or none.
+    fn effect(&mut self, plan: &P, member: usize, unit: u64, done: u64) -> Option<Effect>
         requires ready { ready self.old plan.now }
+        requires member { member < (course self.old plan.now).team }
         requires unit { unit < (work_at (course self.old plan.now) (entered self.old)).units }
         ensures value { as_option result ≡ get_elem? ((work_at (course self.old plan.now) (entered self.old)).effects unit) done }
         ensures course { course self.new plan.now ≡ course self.old plan.now }
         ensures entered { entered self.new ≡ entered self.old }
         ensures ready { ready self.new plan.now };
+
+    ghost stays_made: { (w : Self) (p : P) → ready w p → made_for w p };
 }
 
 /// The member's state does not allow the step.
@@ -78,6 +84,7 @@ impl<W> Machine<W> {
     where
         W: UnitWork<P> + Drop,
         requires can { CanRun (W.course work plan.now) }
+        requires made { W.made_for work plan.now }
         requires sizes { (team ≡ (W.course work plan.now).team) × (count ≡ (W.course work plan.now).count) }
         requires opening { opening ≡ (W.course work plan.now).opening }
         ensures holds { IfOk result (λ r. Holds (W.course r.work plan.now) r.state r.pending (W.entered r.work) (W.ready r.work plan.now)) }
@@ -158,7 +165,7 @@ impl<W> Machine<W> {
         ensures same { (self.new.team ≡ self.old.team) × (self.new.count ≡ self.old.count) }
     {
         if let MemberState::Within { unit, done } = self.state.members.as_slice()[member].state {
-            let next = self.work.effect(plan, unit, done);
+            let next = self.work.effect(plan, member, unit, done);
             self.pending.set(member, next);
         }
     }

@@ -1,165 +1,312 @@
 //! A core over `a(2:5) = a(1:4)`: a phase that saves the right side, and one that assigns it.
 
-ghost use Rattle.std.specs.Prelude.{◌≡◌, ◌≤◌, ◌<◌, IfOk, slice_index};
-ghost use Rattle.team_core.specs.Copies.{IsKept};
+ghost use Rattle.std.specs.Prelude.{◌≡◌, ◌≤◌, ◌<◌, IfOk};
+ghost use Rattle.phase_ops.specs.Free.{IsChunk};
+ghost use Rattle.team_core.specs.Shifts.{cell_from, copy_act, copy as spec_copy, shift, IsShift};
 
 use super::*;
-use phase_ops::Effect;
-use std::alloc::Global;
+use phase_ops::{
+    Act, ActList, Address, Label, Micro, MicroList, Phase, PhaseList, Source, Term, TermList,
+};
+use std::alloc::{AllocError, Global};
 use std::test::Fail;
+use ws_base::Name;
 
-/// The cells at the start, and the phase that is entered.
-#[derive(Drop)]
-struct Copies {
-    opening: CellList,
-    team: u64,
-    entered: u64,
-}
-
-/// There is nothing to plan.
-struct Shift;
-
-impl UnitWork<Shift> for Copies {
-    ghost use Rattle.std.specs.Prelude.{◌<◌};
-    ghost use Rattle.team_core.specs.Copies.{copies};
-
-    ghost course = { λ w p. copies w.opening w.team };
-
-    ghost entered = { λ w. w.entered };
-
-    ghost ready = { λ w p. w.entered < 2 };
-
-    fn enter(&mut self, _plan: &Shift, phase: u64, _cells: &[u64]) {
-        self.entered = phase;
-    }
-
-    fn units(&self, _plan: &Shift) -> u64 {
-        4
-    }
-
-    fn effect(&mut self, _plan: &Shift, unit: u64, done: u64) -> Option<Effect> {
-        if done > 0 {
-            return None;
-        }
-        let value = value_at(&self.opening, unit);
-        if self.entered == 0 {
-            Some(Effect::Store(5 + unit, value))
-        } else {
-            Some(Effect::Store(1 + unit, value))
-        }
-    }
-}
-
-fn value_at(cells: &CellList, at: u64) -> u64
-    ensures { result ≡ slice_index cells.now at }
+/// The cell whose number is in the register 0, counted from `base`.
+fn cell_from(alloc: Global, base: u32) -> Result<Address, AllocError>
+    ensures { IfOk result (λ a. a ≡ cell_from base) }
 {
-    if at < cells.len() as u64 {
-        cells.as_slice()[at as usize]
-    } else {
-        0
-    }
-}
-
-fn started(alloc: Global, team: u32) -> Result<Machine<Copies>, Fail>
-    requires { (1 ≤ team) × (team ≤ 64) }
-    ensures kept { IfOk result (λ r. IsKept r.work.opening r.work.team r.state r.pending r.work.entered r.team r.count) }
-    ensures team { IfOk result (λ r. r.work.team ≡ team) }
-{
-    let cells = [1, 2, 3, 4, 5, 0, 0, 0, 0];
-    let opening = CellList::from_slice(alloc, &cells)?;
-    let work = Copies {
-        opening: CellList::from_slice(alloc, &cells)?,
-        team: u64::from(team),
-        entered: 0,
+    let term = Term {
+        reg: 0,
+        step: Source::Fixed(1),
     };
-    Ok(Machine::start(alloc, &Shift, work, opening, team, 2)?)
+    Ok(Address {
+        base: Source::Fixed(i64::from(base)),
+        terms: TermList::from_vec(vec![in alloc; term]?),
+    })
+}
+
+fn copy_act(alloc: Global, from: u32, to: u32) -> Result<Act, AllocError>
+    ensures { IfOk result (λ a. a ≡ copy_act from to) }
+{
+    let load = Micro::Load(cell_from(alloc, from)?);
+    let store = Micro::Store(cell_from(alloc, to)?, 1);
+    Ok(Act {
+        line: 4,
+        ops: MicroList::from_vec(vec![in alloc; Micro::Position, load, store]?),
+        whole: false,
+    })
+}
+
+/// Copies four cells.
+fn copy(alloc: Global, label: Label, from: u32, to: u32) -> Result<Phase, AllocError>
+    ensures { IfOk result (λ p. p ≡ spec_copy label from to) }
+{
+    let act = copy_act(alloc, from, to)?;
+    Ok(Phase::Loop {
+        line: 4,
+        label,
+        count: Source::Fixed(4),
+        acts: ActList::from_vec(vec![in alloc; act]?),
+    })
+}
+
+fn shift_phases(alloc: Global) -> Result<PhaseList, AllocError>
+    ensures { IfOk result (λ ps. ps ≡ shift) }
+{
+    let save = Label::Save {
+        temp: 1,
+        addresses: None,
+    };
+    let assign = Label::Assign {
+        name: Name::from_str(alloc, "a")?,
+        from: Some(1),
+        at: None,
+    };
+    let first = copy(alloc, save, 0, 5)?;
+    let second = copy(alloc, assign, 5, 1)?;
+    Ok(PhaseList::from_vec(vec![in alloc; first, second]?))
+}
+
+/// A core that runs, and its phases.
+#[derive(Drop)]
+struct Run {
+    phases: PhaseList,
+    core: Core,
+}
+
+fn started(alloc: Global, team: u32, chunk: u32) -> Result<Run, AllocError>
+    requires { (1 ≤ team) × (team ≤ 64) × IsChunk chunk }
+    ensures { IfOk result (λ r. IsShift r.phases r.core team) }
+{
+    let phases = shift_phases(alloc)?;
+    let opening = CellList::from_slice(alloc, &[1, 2, 3, 4, 5, 0, 0, 0, 0])?;
+    let core = Core::start(alloc, &phases, opening, team, chunk)?;
+    Ok(Run { phases, core })
 }
 
 /// The member's one step, where it has one.
-fn go(machine: &mut Machine<Copies>, member: u32)
-    requires kept { IsKept machine.old.work.opening machine.old.work.team machine.old.state machine.old.pending machine.old.work.entered machine.old.team machine.old.count }
-    requires there { member < machine.old.work.team }
-    ensures kept { IsKept machine.new.work.opening machine.new.work.team machine.new.state machine.new.pending machine.new.work.entered machine.new.team machine.new.count }
-    ensures team { machine.new.work.team ≡ machine.old.work.team }
+fn go(run: &mut Run, team: u32, member: u32) -> Option<StepKind>
+    requires run { IsShift run.old.phases run.old.core team }
+    requires there { member < team }
+    ensures { IsShift run.new.phases run.new.core team }
 {
-    if let Some(kind) = machine.next(member) {
-        let _ = machine.step(&Shift, member, kind);
+    let next = run.core.next(&run.phases, member);
+    if let Some(kind) = next {
+        let _ = run.core.step(&run.phases, member, kind);
     }
+    next
 }
 
-/// Steps of members that the number picks, as many as all orders need.
-fn run(machine: &mut Machine<Copies>, team: u32, picks: u64)
-    requires kept { IsKept machine.old.work.opening machine.old.work.team machine.old.state machine.old.pending machine.old.work.entered machine.old.team machine.old.count }
-    requires team { (1 ≤ team) × (machine.old.work.team ≡ team) }
-    ensures kept { IsKept machine.new.work.opening machine.new.work.team machine.new.state machine.new.pending machine.new.work.entered machine.new.team machine.new.count }
-    ensures team { machine.new.work.team ≡ team }
+fn is_shifted(run: &Run, team: u32) -> bool
+    requires { IsShift run.now.phases run.now.core team }
+{
+    run.core.cell(0) == 1
+        && run.core.cell(1) == 1
+        && run.core.cell(2) == 2
+        && run.core.cell(3) == 3
+        && run.core.cell(4) == 4
+}
+
+fn has_ended(run: &Run, team: u32, member: u32) -> bool
+    requires run { IsShift run.now.phases run.now.core team }
+    requires there { member < team }
+{
+    matches!(run.core.state(member), MemberState::Ended) && !run.core.marked(member)
+}
+
+/// Whether all members have ended, and left the shifted array.
+fn is_done(run: &Run, team: u32) -> bool
+    requires { IsShift run.now.phases run.now.core team }
+{
+    for member in 0..team {
+        if !has_ended(run, team, member) {
+            return false;
+        }
+    }
+    is_shifted(run, team)
+}
+
+/// Steps of members that the number picks, more than any order needs.
+fn run_at_random(run: &mut Run, team: u32, picks: u64)
+    requires run { IsShift run.old.phases run.old.core team }
+    requires some { 1 ≤ team }
+    ensures { IsShift run.new.phases run.new.core team }
 {
     let mut number = picks;
-    for _ in 0..4000 {
+    for _ in 0..20_000 {
         number = number
             .wrapping_mul(6_364_136_223_846_793_005)
             .wrapping_add(1_442_695_040_888_963_407);
-        go(machine, ((number >> 33) % u64::from(team)) as u32);
+        go(run, team, ((number >> 33) % u64::from(team)) as u32);
     }
 }
 
-fn ends_with(machine: &Machine<Copies>, cell: u32) -> u64
-    requires kept { IsKept machine.now.work.opening machine.now.work.team machine.now.state machine.now.pending machine.now.work.entered machine.now.team machine.now.count }
-    requires there { cell < 9 }
+fn orders(alloc: Global, team: u32, chunk: u32, count: u64) -> Result<bool, AllocError>
+    requires { (1 ≤ team) × (team ≤ 64) × IsChunk chunk }
 {
-    machine.cell(cell)
-}
-
-fn all_copied(machine: &Machine<Copies>) -> bool
-    requires kept { IsKept machine.now.work.opening machine.now.work.team machine.now.state machine.now.pending machine.now.work.entered machine.now.team machine.now.count }
-{
-    ends_with(machine, 0) == 1
-        && ends_with(machine, 1) == 1
-        && ends_with(machine, 2) == 2
-        && ends_with(machine, 3) == 3
-        && ends_with(machine, 4) == 4
-}
-
-fn ended(machine: &Machine<Copies>, member: u32) -> bool
-    requires kept { IsKept machine.now.work.opening machine.now.work.team machine.now.state machine.now.pending machine.now.work.entered machine.now.team machine.now.count }
-    requires there { member < machine.now.work.team }
-{
-    matches!(machine.state(member), MemberState::Ended) && !machine.marked(member)
+    for picks in 0..count {
+        let mut run = started(alloc, team, chunk)?;
+        run_at_random(&mut run, team, picks);
+        if !is_done(&run, team) {
+            return Ok(false);
+        }
+    }
+    Ok(true)
 }
 
 #[test]
-fn two_members_in_many_orders(rt: HostRuntime) -> Result<(), Fail> {
+fn larger_teams_in_many_orders(rt: HostRuntime) -> Result<(), Fail> {
     let alloc = rt.alloc();
-    for picks in 0..200 {
-        let mut machine = started(alloc, 2)?;
-        run(&mut machine, 2, picks);
-        assert!(rt; ended(&machine, 0));
-        assert!(rt; ended(&machine, 1));
-        assert!(rt; all_copied(&machine));
-    }
+    assert!(rt; orders(alloc, 1, 1, 1)?);
+    assert!(rt; orders(alloc, 3, 1, 100)?);
+    assert!(rt; orders(alloc, 7, 1, 100)?);
+    assert!(rt; orders(alloc, 64, 1, 20)?);
+    assert!(rt; orders(alloc, 3, 3, 100)?);
+    assert!(rt; orders(alloc, 2, 65_536, 20)?);
     Ok(())
 }
 
-#[test]
-fn a_larger_team_in_some_orders(rt: HostRuntime) -> Result<(), Fail> {
-    let alloc = rt.alloc();
-    for picks in 0..20 {
-        let mut machine = started(alloc, 7)?;
-        run(&mut machine, 7, picks);
-        assert!(rt; ended(&machine, 6));
-        assert!(rt; all_copied(&machine));
+/// An order of the first steps of a team of two: the k-th bit names the k-th member.
+#[derive(Clone, Copy)]
+struct Order {
+    members: u128,
+    steps: u32,
+}
+
+/// What tells the states of a team of two apart: the members, and how often units of each phase were claimed.
+#[derive(Clone, Copy, PartialEq)]
+struct Told {
+    first: Member,
+    second: Member,
+    early_claims: u64,
+    late_claims: u64,
+}
+
+fn told_at_the_start() -> Told {
+    let ready = Member {
+        phase: 0,
+        state: MemberState::Ready,
+        full: false,
+    };
+    Told {
+        first: ready,
+        second: ready,
+        early_claims: 0,
+        late_claims: 0,
     }
+}
+
+fn moved(run: &Run, was: Member, member: u32, kind: Option<StepKind>) -> Member
+    requires run { IsShift run.now.phases run.now.core 2 }
+    requires there { member < 2 }
+{
+    let state = run.core.state(member);
+    let goes_on = matches!(kind, Some(StepKind::Verdict)) && matches!(state, MemberState::Ready);
+    Member {
+        phase: was.phase.wrapping_add(u64::from(goes_on)),
+        state,
+        full: run.core.marked(member),
+    }
+}
+
+/// What is told after a step of the member.
+fn told_after(run: &mut Run, told: Told, member: u32) -> Told
+    requires run { IsShift run.old.phases run.old.core 2 }
+    requires there { member < 2 }
+    ensures { IsShift run.new.phases run.new.core 2 }
+{
+    let kind = go(run, 2, member);
+    let was = if member == 0 { told.first } else { told.second };
+    let is = moved(run, was, member, kind);
+    let claims = u64::from(matches!(kind, Some(StepKind::Claim)));
+    let early = if was.phase == 0 { claims } else { 0 };
+    Told {
+        first: if member == 0 { is } else { told.first },
+        second: if member == 0 { told.second } else { is },
+        early_claims: told.early_claims.wrapping_add(early),
+        late_claims: told.late_claims.wrapping_add(claims - early),
+    }
+}
+
+/// Where an order leads, and whether both members have ended there and left the shifted array.
+fn follow(alloc: Global, order: Order) -> Result<(Told, bool), AllocError> {
+    let mut run = started(alloc, 2, 1)?;
+    let mut told = told_at_the_start();
+    let mut members = order.members;
+    for _ in 0..order.steps {
+        let member = u32::from(members % 2 == 1);
+        members /= 2;
+        told = told_after(&mut run, told, member);
+    }
+    Ok((told, is_done(&run, 2)))
+}
+
+fn has_seen(seen: &[Told], told: Told) -> bool {
+    seen.iter().any(|other| *other == told)
+}
+
+fn both_ended(told: Told) -> bool {
+    matches!(told.first.state, MemberState::Ended)
+        && matches!(told.second.state, MemberState::Ended)
+}
+
+/// Goes to each state that some order of a team of two leads to. True where all of them were found, some order ends both
+/// members, and each that does leaves the shifted array.
+fn explore(alloc: Global) -> Result<bool, AllocError> {
+    let mut seen = Vec::new(alloc);
+    let mut left = Vec::new(alloc);
+    left.push(Order {
+        members: 0,
+        steps: 0,
+    })?;
+    let mut ends = false;
+    for _ in 0..100_000 {
+        let Some(order) = left.pop() else {
+            return Ok(ends);
+        };
+        let (told, done) = follow(alloc, order)?;
+        if has_seen(seen.as_slice(), told) {
+            continue;
+        }
+        seen.push(told)?;
+        if both_ended(told) {
+            if !done {
+                return Ok(false);
+            }
+            ends = true;
+        }
+        if order.steps >= 127 {
+            return Ok(false);
+        }
+        let bit = 1_u128 << order.steps;
+        left.push(Order {
+            members: order.members,
+            steps: order.steps + 1,
+        })?;
+        left.push(Order {
+            members: order.members | bit,
+            steps: order.steps + 1,
+        })?;
+    }
+    Ok(false)
+}
+
+#[test]
+fn every_order_of_two_members(rt: HostRuntime) -> Result<(), Fail> {
+    assert!(rt; explore(rt.alloc())?);
     Ok(())
 }
 
 #[test]
 fn nobody_arrives_at_the_start(rt: HostRuntime) -> Result<(), Fail> {
-    let alloc = rt.alloc();
-    let mut machine = started(alloc, 2)?;
-    let answer = machine.step(&Shift, 0, StepKind::Arrive);
+    let mut run = started(rt.alloc(), 2, 1)?;
+    let answer = run.core.step(&run.phases, 0, StepKind::Arrive);
     let expected = Err(NotNow {
         state: MemberState::Ready,
     });
     assert_eq!(rt; answer, expected);
+    assert_eq!(rt; run.core.next(&run.phases, 1), Some(StepKind::Claim));
+    assert!(rt; !run.core.full(0));
     Ok(())
 }

@@ -10,19 +10,20 @@ use Rattle.ws_tree.specs.declared.stmt.Body.TheBlock.{hidden-the_row-Stmt-0, hid
 use Rattle.ws_tree.specs.Opened.{trees_open}
 use Rattle.ws_tree.specs.declared.stmt.Body.TheViews.{roll-Else, out-Else, roll-out-Else}
 use Rattle.ws_base.specs.declared.refusal.RefusalKind.TheVariants as kind
-use Rattle.ws_sema.specs.declared.types.Row.{Row}
-use Rattle.ws_sema.specs.declared.types.Within.{Within}
-use Rattle.ws_sema.specs.declared.types.Within.TheVariants as within
-use Rattle.ws_sema.specs.Kinds.{when, least_from}
+use Rattle.ws_types.specs.declared.types.Row.{Row}
+use Rattle.ws_sema.specs.declared.within.Within.{Within}
+use Rattle.ws_sema.specs.declared.within.Within.TheVariants as within
+use Rattle.ws_types.specs.Kinds.{when, least_from}
 use Rattle.ws_tree.specs.declared.stmt.Body.{Body}
 use Rattle.ws_tree.specs.declared.expr.Expr.TheVariants.{Part}
 use Rattle.ws_tree.specs.declared.expr.Sub.{Sub}
-use Rattle.ws_sema.specs.declared.types.Subscripts.{Subscripts}
-use Rattle.ws_sema.specs.Operations.{no_subscripts}
-use Rattle.ws_sema.specs.Lists as lists
-use Rattle.ws_sema.proofs.Walks.{subscripts_list}
+use Rattle.ws_types.specs.declared.types.Subscripts.{Subscripts}
+use Rattle.ws_types.specs.Operations.{no_subscripts}
+use Rattle.ws_types.specs.Lists as lists
+use Rattle.ws_types.proofs.Walks.{subscripts_list}
+use Rattle.ws_types.specs.Tables as tables
 use Rattle.ws_sema.specs.Statements as s
-use Rattle.ws_sema.proofs.Appended.{least-append, least-none}
+use Rattle.ws_types.proofs.Appended.{least-append, least-none}
 
 block_list : (t : List Row) (w : Within) (ss : List Stmt) → s.block_faults t w (hidden-the_row-Stmt-0 ss) ≡ s.stmts_faults t w ss
 unfolding trees_open
@@ -38,9 +39,9 @@ masked_is : (t : List Row) (w : Within) (line : ℕ) (mask : Expr) (block : List
 unfolding trees_open
 masked_is t w line mask block rest = rw (block_list t (s.under t line mask) block, elses_list t line (s.mask_rank t mask) rest)
 
-forall_is : (t : List Row) (w : Within) (line : ℕ) (is : List Index) (mask : Option Expr) (block : List Stmt) → s.body_faults t w line (Forall is mask block) ≡ (if s.is_masked w then when true line kind.Unsupported else (s.forall_header_faults t line is mask ++ s.stmts_faults (s.inner t is) within.Forall block))
+forall_is : (t : List Row) (w : Within) (line : ℕ) (is : List Index) (mask : Option Expr) (block : List Stmt) → s.body_faults t w line (Forall is mask block) ≡ (if s.is_masked w then when true line kind.Unsupported else (s.forall_header_faults t line is mask ++ s.stmts_faults (tables.inner t is) within.Forall block))
 unfolding trees_open
-forall_is t w line is mask block = rw (block_list (s.inner t is) within.Forall block)
+forall_is t w line is mask block = rw (block_list (tables.inner t is) within.Forall block)
 
 loop_is : (t : List Row) (w : Within) (line : ℕ) (x : List ℕ) (l u : Expr) (st : Option Expr) (block : List Stmt) → s.body_faults t w line (Loop x l u st block) ≡ (if s.is_masked w then when true line kind.Unsupported else (s.loop_header_faults t w line x l u st ++ s.stmts_faults (s.with_active t x) w block))
 unfolding trees_open
@@ -67,17 +68,17 @@ masked_noted t w line whole mask block block' rest rest' rank f0 f1 f2 f3 is sb 
     ∙ ap (least_from f0) (sym whole_is)
 
 pub forall_noted : (t : List Row) (w : Within) (line : ℕ) (whole : Body) (is is' : List Index) (mask : Option Expr) (block block' : List Stmt) (table : List Row) (f0 f1 f2 : Option Refusal) →
-    whole ≡ Forall is mask block → block' ≡ block → is' ≡ is → s.is_masked w ≡ false → table ≡ s.inner t is' →
+    whole ≡ Forall is mask block → block' ≡ block → is' ≡ is → s.is_masked w ≡ false → table ≡ tables.inner t is' →
     f1 ≡ least_from f0 (s.forall_header_faults t line is' mask) → f2 ≡ least_from f1 (s.stmts_faults table within.Forall block') →
     f2 ≡ least_from f0 (s.body_faults t w line whole)
-forall_noted t w line whole is is' mask block block' table f0 f1 f2 e sb si free tables e1 e2 =
-    let sum : List Refusal = s.forall_header_faults t line is mask ++ s.stmts_faults (s.inner t is) within.Forall block in
+forall_noted t w line whole is is' mask block block' table f0 f1 f2 e sb si free known e1 e2 =
+    let sum : List Refusal = s.forall_header_faults t line is mask ++ s.stmts_faults (tables.inner t is) within.Forall block in
     let whole_is : s.body_faults t w line whole ≡ sum = ap (s.body_faults t w line) e ∙ forall_is t w line is mask block ∙ ap (λ b. if b then when true line kind.Unsupported else sum) free in
     e2
     ∙ ap (λ b. least_from f1 (s.stmts_faults table within.Forall b)) sb
-    ∙ ap (λ r. least_from f1 (s.stmts_faults r within.Forall block)) (tables ∙ ap (s.inner t) si)
-    ∙ ap (λ f. least_from f (s.stmts_faults (s.inner t is) within.Forall block)) (e1 ∙ ap (λ i. least_from f0 (s.forall_header_faults t line i mask)) si)
-    ∙ sym (least-append f0 (s.forall_header_faults t line is mask) (s.stmts_faults (s.inner t is) within.Forall block))
+    ∙ ap (λ r. least_from f1 (s.stmts_faults r within.Forall block)) (known ∙ ap (tables.inner t) si)
+    ∙ ap (λ f. least_from f (s.stmts_faults (tables.inner t is) within.Forall block)) (e1 ∙ ap (λ i. least_from f0 (s.forall_header_faults t line i mask)) si)
+    ∙ sym (least-append f0 (s.forall_header_faults t line is mask) (s.stmts_faults (tables.inner t is) within.Forall block))
     ∙ ap (least_from f0) (sym whole_is)
 
 pub loop_noted : (t : List Row) (w : Within) (line : ℕ) (whole : Body) (x : List ℕ) (l u : Expr) (st : Option Expr) (block block' : List Stmt) (table : List Row) (f0 f1 f2 : Option Refusal) →

@@ -2,7 +2,7 @@
 use Rattle.std.proofs.Common.{◌≡◌, refl, ap, ℕ, zero, suc, ◌*◌, ◌-◌, ◌≤◌, min, nat_lt, List, [], ◌∷◌, Some, None, ◌∙◌, sym, arith}
 use Rattle.std.proofs.lemmas.Bool.Decides.{nat_tests}
 use Rattle.ws_tree.specs.declared.stmt.Bound.{Bound}
-use Rattle.ws_sema.specs.declared.constant.Constant.{Constant}
+use Rattle.ws_types.specs.declared.constant.Constant.{Constant}
 use Rattle.ws_sema.specs.Declarations.{is_too_large, extent_of, times}
 
 few_times : (m n : ℕ) → m ≤ 65537 → min (m * n) 65537 ≡ min (min m 65537 * n) 65537

@@ -4,12 +4,12 @@ use Rattle.std.proofs.Math.ListN.{drop_of_length-le}
 use Rattle.ws_base.specs.declared.refusal.Refusal.{Refusal}
 use Rattle.ws_tree.specs.declared.stmt.Decl.{Decl}
 use Rattle.ws_tree.specs.declared.stmt.Index.{Index}
-use Rattle.ws_sema.specs.declared.types.Row.{Row}
-use Rattle.ws_sema.specs.declared.constant.Constant.{Constant}
-use Rattle.ws_sema.specs.Kinds.{least_from}
+use Rattle.ws_types.specs.declared.types.Row.{Row}
+use Rattle.ws_types.specs.declared.constant.Constant.{Constant}
+use Rattle.ws_types.specs.Kinds.{least_from}
 use Rattle.ws_sema.specs.Declarations.{decls_faults, decl_faults, constants_after, with_constant}
 use Rattle.ws_sema.specs.Statements.{header_faults, index_faults}
-use Rattle.ws_sema.proofs.Appended.{least-append, least-none, front, before}
+use Rattle.ws_types.proofs.Appended.{least-append, least-none, front, before}
 
 pub next_decl : (cs more : List Constant) (ds : List Decl) (i : ℕ) (d : Decl) (found now : Option Refusal) → i < length ds → d ≡ get_or ds i d → now ≡ least_from found (decl_faults (take i ds) cs d) → more ≡ with_constant cs d → least_from found (decls_faults (take i ds) cs (drop i ds)) ≡ least_from now (decls_faults (take (i + 1) ds) more (drop (i + 1) ds))
 next_decl cs more ds i d found now within is step grown =

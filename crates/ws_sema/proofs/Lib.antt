@@ -1,7 +1,6 @@
-pub mod Appended
-pub mod Walks
 pub mod Extents
 pub mod Headers
 pub mod Blocks
 pub mod Order
 pub mod Computed
+pub mod Accepted

@@ -1,5 +1,5 @@
 -- The least fault is one of the faults, and none precedes it.
-use Rattle.std.proofs.Common.{◌≡◌, refl, ap, sym, subst, ◌∙◌, ℕ, ◌<◌, ◌≤◌, ◌⊎◌, inl, inr, Bool, true, false, ◌||◌, ◌&&◌, nat_lt, nat_eq, ◌≢◌, List, [], ◌∷◌, Option, Some, None, MatchOption, arith, if◌then◌else◌}
+use Rattle.std.proofs.Common.{◌≡◌, refl, ap, sym, subst, ◌∙◌, ℕ, ◌<◌, ◌≤◌, ◌⊎◌, inl, inr, Bool, true, false, ◌||◌, ◌&&◌, nat_lt, nat_eq, ◌≢◌, List, [], ◌∷◌, ◌++◌, Option, Some, None, MatchOption, arith, if◌then◌else◌}
 use Rattle.std.proofs.Math.Nat.{eq-or-lt_of_le, le_of_lt}
 use borrow.Author.Tests.{ltb-true, ltb-false, eqb-true, eqb-false}
 use Rattle.ws_base.specs.declared.refusal.Refusal.{Refusal}
@@ -7,13 +7,14 @@ use Rattle.ws_base.specs.Words.{kind_number}
 use Rattle.ws_tree.specs.declared.stmt.Tree.{Tree}
 use Rattle.ws_tree.specs.declared.stmt.Decl.{Decl}
 use Rattle.ws_tree.specs.declared.stmt.Stmt.{Stmt}
-use Rattle.ws_sema.specs.declared.types.Row.{Row}
-use Rattle.ws_sema.specs.declared.types.Within.TheVariants.{Outside}
+use Rattle.ws_types.specs.declared.types.Row.{Row}
+use Rattle.ws_sema.specs.declared.within.Within.TheVariants.{Outside}
 use Rattle.ws_sema.specs.Declarations.{decls_faults, table_of}
 use Rattle.ws_sema.specs.Statements.{stmts_faults}
+use Rattle.ws_counts.specs.Limits.{stmts_limits}
 use Rattle.ws_sema.specs.Checks.{rule_faults}
-use Rattle.ws_sema.proofs.Appended.{least-append}
-use Rattle.ws_sema.specs.Kinds.{precedes, least_from, IsNotAfter, IsAmong, IsBeforeAll, IsLeast}
+use Rattle.ws_types.proofs.Appended.{least-append}
+use Rattle.ws_types.specs.Kinds.{precedes, least_from, IsNotAfter, IsAmong, IsBeforeAll, IsLeast}
 
 before_numbers : (l k m n : ℕ) → ((l < m) ⊎ ((l ≡ m) × (k ≤ n))) → (p q : ℕ) → ((m < p) ⊎ ((m ≡ p) × (n ≤ q))) → ((l < p) ⊎ ((l ≡ p) × (k ≤ q)))
 before_numbers l k m n (inl h) p q (inl g) = inl (omega arith)
@@ -108,15 +109,21 @@ pub first_is : (fs : List Refusal) (found : Option Refusal) → found ≡ least_
 first_is fs None e = none_is fs (sym e)
 first_is fs (Some r) e = least_is fs r (sym e)
 
--- the faults of the declarations and then those of the statements, noted one after the other
-pub all_noted : (t : Tree) (ds ds' : List Decl) (table table' : List Row) (body : List Stmt) (f1 f2 : Option Refusal) →
-    ds ≡ t.decls → ds' ≡ t.decls → table ≡ table' → table' ≡ table_of ds' → body ≡ t.body →
-    f1 ≡ least_from None (decls_faults [] [] ds) → f2 ≡ least_from f1 (stmts_faults table Outside body) →
-    MatchOption f2 (rule_faults t ≡ []) (λ r. IsLeast r (rule_faults t))
-all_noted t ds ds' table table' body f1 f2 sd sd' st st' sb e1 e2 =
-    first_is (rule_faults t) f2
-    (e2
-    ∙ ap (λ b. least_from f1 (stmts_faults table Outside b)) sb
-    ∙ ap (λ k. least_from f1 (stmts_faults k Outside t.body)) (st ∙ st' ∙ ap table_of sd')
-    ∙ ap (λ f. least_from f (stmts_faults (table_of t.decls) Outside t.body)) (e1 ∙ ap (λ d. least_from None (decls_faults [] [] d)) sd)
-    ∙ sym (least-append None (decls_faults [] [] t.decls) (stmts_faults (table_of t.decls) Outside t.body)))
+-- the faults of the declarations, those of the statements and the limits, noted one after the other
+pub all_noted : (t : Tree) (ds ds' : List Decl) (table table' table'' : List Row) (body body' : List Stmt) (f1 f2 f3 : Option Refusal) →
+    ds ≡ t.decls → ds' ≡ t.decls → table ≡ table_of ds' → table' ≡ table → table'' ≡ table → body ≡ t.body → body' ≡ t.body →
+    f1 ≡ least_from None (decls_faults [] [] ds) → f2 ≡ least_from f1 (stmts_faults table' Outside body) → f3 ≡ least_from f2 (stmts_limits table'' false body') →
+    MatchOption f3 (rule_faults t ≡ []) (λ r. IsLeast r (rule_faults t))
+all_noted t ds ds' table table' table'' body body' f1 f2 f3 sd sd' known st st' sb sb' e1 e2 e3 =
+    let names : List Row = table_of t.decls in
+    let decls : List Refusal = decls_faults [] [] t.decls in
+    let stmts : List Refusal = stmts_faults names Outside t.body in
+    let limits : List Refusal = stmts_limits names false t.body in
+    let known' : table ≡ names = known ∙ ap table_of sd' in
+    let decls_noted : f1 ≡ least_from None decls = e1 ∙ ap (λ d. least_from None (decls_faults [] [] d)) sd in
+    let stmts_noted : f2 ≡ least_from f1 stmts = e2 ∙ ap (λ b. least_from f1 (stmts_faults table' Outside b)) sb ∙ ap (λ k. least_from f1 (stmts_faults k Outside t.body)) (st ∙ known') in
+    let limits_noted : f3 ≡ least_from f2 limits = e3 ∙ ap (λ b. least_from f2 (stmts_limits table'' false b)) sb' ∙ ap (λ k. least_from f2 (stmts_limits k false t.body)) (st' ∙ known') in
+    first_is (rule_faults t) f3
+    (limits_noted
+    ∙ ap (λ f. least_from f limits) (stmts_noted ∙ ap (λ f. least_from f stmts) decls_noted ∙ sym (least-append None decls stmts))
+    ∙ sym (least-append None (decls ++ stmts) limits))

@@ -10,13 +10,13 @@ use Rattle.ws_tree.specs.declared.stmt.Bound.{Bound}
 use Rattle.ws_tree.specs.declared.stmt.Bound.TheVariants as bound
 use Rattle.ws_tree.specs.declared.stmt.Decl.{Decl}
 use Rattle.ws_tree.specs.Words.{is_keyword}
-use Rattle.ws_sema.specs.declared.constant.Constant.{Constant}
-use Rattle.ws_sema.specs.declared.constant.Constancy.{Constancy}
-use Rattle.ws_sema.specs.declared.types.Row.{Row}
-use Rattle.ws_sema.specs.declared.types.Standing.TheVariants.{Declared}
-use Rattle.ws_sema.specs.Kinds.{when}
-use Rattle.ws_sema.specs.Names.{Name}
-use Rattle.ws_sema.specs.Constants.{constancy, truth_constancy, constant_faults, value_of}
+use Rattle.ws_types.specs.declared.constant.Constant.{Constant}
+use Rattle.ws_types.specs.declared.constant.Constancy.{Constancy}
+use Rattle.ws_types.specs.declared.types.Row.{Row}
+use Rattle.ws_types.specs.declared.types.Standing.TheVariants.{Declared}
+use Rattle.ws_types.specs.Kinds.{when}
+use Rattle.ws_types.specs.Names.{Name}
+use Rattle.ws_types.specs.Constants.{constancy, truth_constancy, constant_faults, value_of}
 
 abbrev pub name_limit : ℕ
 name_limit = 64

@@ -16,7 +16,7 @@ use Rattle.ws_tree.specs.declared.stmt.Stmt.{Stmt}
 use Rattle.ws_tree.specs.declared.stmt.Else.{Else, roll-Else}
 use Rattle.ws_tree.specs.declared.stmt.Body.{Body}
 use Rattle.ws_tree.specs.declared.stmt.Body.TheVariants.{Assign, Masked, Forall, Loop, Allocate, Shared}
-use Rattle.ws_sema.specs.Kinds.{least_from}
+use Rattle.ws_types.specs.Kinds.{least_from}
 use Rattle.ws_sema.specs.Checks.{rule_faults}
 
 abbrev pub first : Tree → Option Refusal
@@ -26,8 +26,8 @@ first t = least_from None (rule_faults t)
 abbrev pub IsRefused : Tree → ℕ → RefusalKind → Type 0
 IsRefused t line kind = first t ≡ Some (record { line = line; kind = kind })
 
-abbrev pub IsAccepted : Tree → Type 0
-IsAccepted t = first t ≡ None
+abbrev pub IsFaultless : Tree → Type 0
+IsFaultless t = first t ≡ None
 
 -- ---- a shorter spelling of trees
 

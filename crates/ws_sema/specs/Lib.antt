@@ -1,9 +1,3 @@
-pub mod Kinds
-pub mod Names
-pub mod Operations
-pub mod Expressions
-pub mod Lists
-pub mod Constants
 pub mod Declarations
 pub mod Statements
 pub mod Checks

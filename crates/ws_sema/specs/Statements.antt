@@ -1,5 +1,5 @@
 -- The rules on statements.
-use Rattle.std.specs.Prelude.{ℕ, Bool, true, false, not, ◌&&◌, ◌||◌, nat_lt, nat_eq, if◌then◌else◌, List, [], ◌∷◌, ◌++◌, map, length, Option, Some, None, bytes_eq}
+use Rattle.std.specs.Prelude.{ℕ, Bool, true, false, not, ◌&&◌, ◌||◌, nat_lt, nat_eq, if◌then◌else◌, List, [], ◌∷◌, ◌++◌, length, Option, Some, None, bytes_eq}
 use Rattle.std.specs.List.{flat_map}
 use Rattle.ws_base.specs.declared.refusal.RefusalKind.TheVariants as kind
 use Rattle.ws_base.specs.declared.refusal.Refusal.{Refusal}
@@ -14,17 +14,18 @@ use Rattle.ws_tree.specs.declared.stmt.Body.{Body}
 use Rattle.ws_tree.specs.declared.stmt.Body.TheVariants.{Assign, Masked', Forall', Loop', Allocate, Deallocate, Read, Shared', Unsupported, TooDeep as TooDeep'}
 use Rattle.ws_tree.specs.declared.stmt.Else.{Else, Else'}
 use Rattle.ws_tree.specs.Trees.{Stmts, end_stmts, more_stmts, Elses, end_elses, more_elses}
-use Rattle.ws_sema.specs.declared.types.Typed.{Typed}
-use Rattle.ws_sema.specs.declared.types.Standing.{Standing}
-use Rattle.ws_sema.specs.declared.types.Standing.TheVariants.{Declared, Active, Index as Index', Barred}
-use Rattle.ws_sema.specs.declared.types.Row.{Row}
-use Rattle.ws_sema.specs.declared.types.Within.{Within}
-use Rattle.ws_sema.specs.declared.types.Within.TheVariants as within
-use Rattle.ws_sema.specs.Kinds.{when}
-use Rattle.ws_sema.specs.Names.{Name, standing_of, name_type, name_faults, is_constant, is_active, is_no_allocatable, target_faults, target_type}
-use Rattle.ws_sema.specs.Operations.{is_other_type, is_above, scalar_faults, no_subscripts}
-use Rattle.ws_sema.specs.Expressions.{typed, faults, subscripts}
-use Rattle.ws_sema.specs.Lists.{given_faults}
+use Rattle.ws_types.specs.declared.types.Typed.{Typed}
+use Rattle.ws_types.specs.declared.types.Standing.{Standing}
+use Rattle.ws_types.specs.declared.types.Standing.TheVariants.{Declared, Active}
+use Rattle.ws_types.specs.declared.types.Row.{Row}
+use Rattle.ws_sema.specs.declared.within.Within.{Within}
+use Rattle.ws_sema.specs.declared.within.Within.TheVariants as within
+use Rattle.ws_types.specs.Kinds.{when}
+use Rattle.ws_types.specs.Names.{Name, standing_of, name_type, name_faults, is_constant, is_active, is_no_allocatable, target_faults, target_type}
+use Rattle.ws_types.specs.Operations.{is_other_type, is_above, scalar_faults, no_subscripts}
+use Rattle.ws_types.specs.Expressions.{typed, faults, subscripts}
+use Rattle.ws_types.specs.Lists.{given_faults}
+use Rattle.ws_types.specs.Tables.{barred, inner}
 
 -- ---- sides
 
@@ -116,13 +117,6 @@ loop_faults w line s = variable_faults line s ++ when (is_active s) line kind.Do
 
 abbrev pub scalar_expr_faults : List Row → ℕ → Expr → List Refusal
 scalar_expr_faults t line e = faults t false line e ++ scalar_faults line (typed t false e)
-
-abbrev pub row : Standing → Index → Row
-row s i = record { name = i.name; standing = s }
-
--- the table in which these index names stand first
-abbrev pub with_indexes : Standing → List Index → List Row → List Row
-with_indexes s is t = map (row s) is ++ t
 
 abbrev pub is_listed : List Index → Name → Bool
 is_listed [] x = false
@@ -234,12 +228,8 @@ under t line mask = within.Masked line (mask_rank t mask)
 abbrev pub where_mask_faults : List Row → Within → ℕ → Expr → List Refusal
 where_mask_faults t w line mask = faults t false line mask ++ mask_faults line (enclosing_rank w) (typed t false mask)
 
--- the table inside a FORALL
-abbrev pub inner : List Row → List Index → List Row
-inner t is = with_indexes Index' is t
-
 abbrev pub forall_header_faults : List Row → ℕ → List Index → Option Expr → List Refusal
-forall_header_faults t line is mask = header_faults t (with_indexes Barred is t) line [] is ++ forall_mask_faults (inner t is) line mask
+forall_header_faults t line is mask = header_faults t (barred t is) line [] is ++ forall_mask_faults (inner t is) line mask
 
 -- the variable and the expressions of a DO
 abbrev pub loop_header_faults : List Row → Within → ℕ → Name → Expr → Expr → Option Expr → List Refusal

@@ -1,15 +1,16 @@
 //! The rules on declarations.
 
 ghost use Rattle.std.specs.Prelude.{◌≡◌, ◌≤◌, ◌*◌, min, Some, [], ◌∷◌, ◌++◌, IfOk, OnOk, map};
-ghost use Rattle.ws_sema.specs.Kinds.{least_from};
+ghost use Rattle.ws_types.specs.Kinds.{least_from};
 ghost use Rattle.ws_sema.specs.Declarations as declarations;
 
-use crate::constant::{Constancy, Constant, check_constant, evaluate, truth_constancy, value_of};
-use crate::least::note;
-use crate::types::{Entry, Row, Standing};
 use std::alloc::{AllocError, Global};
 use ws_base::{Name, Refusal, RefusalKind};
 use ws_tree::{Bound, Decl, Expr, is_keyword};
+use ws_types::{
+    Constancy, Constant, Entry, Row, Standing, check_constant, evaluate, note, truth_constancy,
+    value_of,
+};
 
 /// The greatest number of variables and named constants.
 const NAME_LIMIT: usize = 64;
@@ -32,7 +33,7 @@ fn is_declared(decls: &[Decl], name: &Name) -> bool
 }
 
 /// The name is no keyword, is declared once, and is one of at most 64.
-#[tactic(auto, using(crate::proofs::Appended::least_rules), unfolding(crate::specs::Declarations::heading_faults))]
+#[tactic(auto, using(ws_types::proofs::Appended::least_rules), unfolding(crate::specs::Declarations::heading_faults))]
 fn check_heading(found: &mut Option<Refusal>, before: &[Decl], decl: &Decl)
     ensures { found.new ≡ least_from found.old (declarations.heading_faults before.now decl.now) }
 {
@@ -54,7 +55,7 @@ fn declared_constancy(constants: &[Constant], truth: bool, e: &Expr) -> Constanc
     }
 }
 
-#[tactic(auto, using(crate::proofs::Appended::least_rules))]
+#[tactic(auto, using(ws_types::proofs::Appended::least_rules))]
 fn check_value(
     found: &mut Option<Refusal>,
     constants: &[Constant],
@@ -71,7 +72,7 @@ fn check_value(
 }
 
 /// The bounds of a declared array are constant expressions, and an allocatable has none.
-#[tactic(auto, using(crate::proofs::Appended::least_rules), unfolding(crate::specs::Declarations::bound_faults))]
+#[tactic(auto, using(ws_types::proofs::Appended::least_rules), unfolding(crate::specs::Declarations::bound_faults))]
 fn check_bound(
     found: &mut Option<Refusal>,
     constants: &[Constant],
@@ -95,7 +96,7 @@ fn check_bound(
     }
 }
 
-#[tactic(auto, using(crate::proofs::Appended::least_rules))]
+#[tactic(auto, using(ws_types::proofs::Appended::least_rules))]
 fn check_bounds(
     found: &mut Option<Refusal>,
     constants: &[Constant],
@@ -194,7 +195,7 @@ fn is_large(constants: &[Constant], bounds: &[Bound]) -> bool
 
 /// An allocatable has a shape and a named constant has none; a rank is at most 3, and an array has at most 65536
 /// elements.
-#[tactic(auto, using(crate::proofs::Appended::least_rules), unfolding(crate::specs::Declarations::shape_faults))]
+#[tactic(auto, using(ws_types::proofs::Appended::least_rules), unfolding(crate::specs::Declarations::shape_faults))]
 fn check_shape(found: &mut Option<Refusal>, constants: &[Constant], decl: &Decl)
     ensures { found.new ≡ least_from found.old (declarations.shape_faults constants.now decl.now) }
 {
@@ -206,7 +207,7 @@ fn check_shape(found: &mut Option<Refusal>, constants: &[Constant], decl: &Decl)
     note(found, large, decl.line, RefusalKind::OverLimit);
 }
 
-#[tactic(auto, using(crate::proofs::Appended::least_rules))]
+#[tactic(auto, using(ws_types::proofs::Appended::least_rules))]
 fn check_decl(found: &mut Option<Refusal>, before: &[Decl], constants: &[Constant], decl: &Decl)
     ensures { found.new ≡ least_from found.old (declarations.decl_faults before.now constants.now decl.now) }
 {
@@ -257,7 +258,7 @@ fn keep_value(
 
 /// The faults in the declarations, in which a constant is known from its declaration on; Ok gives the named INTEGER
 /// constants (Fortran 2018, 8.5.13 and 10.1.12).
-#[tactic(auto, using(crate::proofs::Appended::least_rules))]
+#[tactic(auto, using(ws_types::proofs::Appended::least_rules))]
 pub fn check_decls(
     alloc: Global,
     found: &mut Option<Refusal>,

@@ -1,19 +1,16 @@
-//! The checks of a source: what is refused, at which line and why.
+//! The checks of a source: what is refused, at which line and why. Read `specs/Statements.antt` and `Checks.antt` first.
 #![tactic(auto)]
 
-mod check;
-mod constant;
+mod checked;
+mod checking;
 mod decl;
-mod expr;
 mod laws;
-mod least;
-mod names;
-mod operations;
 mod stmt;
 #[cfg(test)]
 mod tests;
-mod types;
 mod walk;
+mod within;
 
-pub use check::first_fault;
+pub use checked::{CheckEnd, Checked};
+pub use checking::{check, first_fault};
 pub use laws::{declaration_examples, expression_examples, statement_examples};

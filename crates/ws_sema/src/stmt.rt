@@ -1,21 +1,18 @@
 //! The rules on statements.
 
-ghost use Rattle.std.specs.Prelude.{◌≡◌, ◌++◌, map, [], OnOk, IfOk};
-ghost use Rattle.ws_sema.specs.Kinds.{least_from};
+ghost use Rattle.std.specs.Prelude.{◌≡◌, []};
+ghost use Rattle.ws_types.specs.Kinds.{least_from};
 ghost use Rattle.ws_sema.specs.Statements as statements;
-ghost use Rattle.ws_sema.specs.Lists.{given_faults};
+ghost use Rattle.ws_types.specs.Lists.{given_faults};
 
-use crate::expr::{expr, subs_of, triplet_part};
-use crate::least::note;
-use crate::names::{
-    check_name, check_target, is_active, is_constant, is_no_allocatable, name_type, standing_of,
-    target_type,
-};
-use crate::operations::{check_scalar, is_above, is_other_type};
-use crate::types::{Row, Standing, Typed, Within};
-use std::alloc::{AllocError, Global};
+use crate::within::Within;
 use ws_base::{Name, Refusal, RefusalKind};
 use ws_tree::{Bound, Expr, Index, Part};
+use ws_types::{
+    Row, Standing, Typed, check_name, check_scalar, check_target, expr, is_above, is_active,
+    is_constant, is_no_allocatable, is_other_type, name_type, note, standing_of, subs_of,
+    target_type, triplet_part,
+};
 
 fn target_standing(table: &[Row], e: &Expr) -> Option<Standing>
     ensures { result ≡ statements.target_standing table.now e.now }
@@ -37,7 +34,7 @@ fn is_designator(e: &Expr) -> bool
 }
 
 /// A variable or part of it that is assigned or read; gives its type and rank.
-#[tactic(auto, using(crate::proofs::Appended::least_rules))]
+#[tactic(auto, using(ws_types::proofs::Appended::least_rules))]
 fn left_side(
     found: &mut Option<Refusal>,
     table: &[Row],
@@ -101,7 +98,7 @@ fn is_other_rank(rank: Option<usize>, typed: Option<Typed>) -> bool
 }
 
 /// The mask that controls an assignment has its rank (Fortran 2018, 10.2.3.1); a break of this has the mask's line.
-#[tactic(auto, using(crate::proofs::Appended::least_rules), unfolding(crate::specs::Statements::control_faults))]
+#[tactic(auto, using(ws_types::proofs::Appended::least_rules), unfolding(crate::specs::Statements::control_faults))]
 fn check_control(found: &mut Option<Refusal>, within: Within, left: Option<Typed>)
     ensures { found.new ≡ least_from found.old (statements.control_faults within left) }
 {
@@ -120,7 +117,7 @@ fn check_control(found: &mut Option<Refusal>, within: Within, left: Option<Typed
 
 /// Sides of one type; a right side of rank 0 or the left side's (Fortran 2018, 10.2.1.2). In a FORALL both have rank 0,
 /// and the left one has subscripts.
-#[tactic(auto, using(crate::proofs::Appended::least_rules), unfolding(crate::specs::Statements::sides_faults))]
+#[tactic(auto, using(ws_types::proofs::Appended::least_rules), unfolding(crate::specs::Statements::sides_faults))]
 fn check_sides(
     found: &mut Option<Refusal>,
     within: Within,
@@ -144,7 +141,7 @@ fn check_sides(
     note(found, wrong_rank, line, RefusalKind::RankWrong);
 }
 
-#[tactic(auto, using(crate::proofs::Appended::least_rules))]
+#[tactic(auto, using(ws_types::proofs::Appended::least_rules))]
 pub fn assignment(
     found: &mut Option<Refusal>,
     table: &[Row],
@@ -191,7 +188,7 @@ pub fn enclosing_rank(within: Within) -> Option<usize>
 }
 
 /// The mask of a WHERE or ELSEWHERE: a LOGICAL array, of the rank of the mask around it (Fortran 2018, 10.2.3.1).
-#[tactic(auto, using(crate::proofs::Appended::least_rules), unfolding(crate::specs::Statements::mask_faults))]
+#[tactic(auto, using(ws_types::proofs::Appended::least_rules), unfolding(crate::specs::Statements::mask_faults))]
 pub fn check_mask(
     found: &mut Option<Refusal>,
     line: u32,
@@ -211,7 +208,7 @@ pub fn check_mask(
 }
 
 /// A DO variable or index name: an INTEGER scalar variable (Fortran 2018, 11.1.7.2).
-#[tactic(auto, using(crate::proofs::Appended::least_rules), unfolding(crate::specs::Statements::variable_faults))]
+#[tactic(auto, using(ws_types::proofs::Appended::least_rules), unfolding(crate::specs::Statements::variable_faults))]
 fn check_variable(found: &mut Option<Refusal>, line: u32, standing: Option<Standing>)
     ensures { found.new ≡ least_from found.old (statements.variable_faults line standing) }
 {
@@ -221,7 +218,7 @@ fn check_variable(found: &mut Option<Refusal>, line: u32, standing: Option<Stand
 }
 
 /// The variable of a DO, which is not that of a DO around it.
-#[tactic(auto, using(crate::proofs::Appended::least_rules), unfolding(crate::specs::Statements::loop_faults))]
+#[tactic(auto, using(ws_types::proofs::Appended::least_rules), unfolding(crate::specs::Statements::loop_faults))]
 pub fn check_loop(
     found: &mut Option<Refusal>,
     within: Within,
@@ -234,56 +231,12 @@ pub fn check_loop(
     note(found, is_active(standing), line, RefusalKind::DoVariable);
 }
 
-#[tactic(auto, using(crate::proofs::Appended::least_rules))]
+#[tactic(auto, using(ws_types::proofs::Appended::least_rules))]
 pub fn scalar_expr(found: &mut Option<Refusal>, table: &[Row], line: u32, e: &Expr)
     ensures { found.new ≡ least_from found.old (statements.scalar_expr_faults table.now line e.now) }
 {
     let typed = expr(found, table, false, line, e);
     check_scalar(found, line, typed);
-}
-
-pub fn copied(alloc: Global, row: &Row) -> Result<Row, AllocError>
-    ensures { IfOk result (λ copy. copy ≡ row.now) }
-{
-    Ok(Row {
-        name: row.name.copy(alloc)?,
-        standing: row.standing,
-    })
-}
-
-fn index_row(alloc: Global, standing: Standing, index: &Index) -> Result<Row, AllocError>
-    ensures { IfOk result (λ row. row ≡ statements.row standing index.now) }
-{
-    Ok(Row {
-        name: index.name.copy(alloc)?,
-        standing,
-    })
-}
-
-pub fn push_rows(alloc: Global, rows: &mut Vec<Row>, table: &[Row]) -> Result<(), AllocError>
-    ensures { OnOk result (rows.new.items ≡ rows.old.items ++ table.now) }
-{
-    'each: for row in table {
-        rows.push(copied(alloc, row)?)?;
-    }
-    Ok(())
-}
-
-/// The table in which these index names stand first.
-pub fn with_indexes(
-    alloc: Global,
-    standing: Standing,
-    indexes: &[Index],
-    table: &[Row],
-) -> Result<Vec<Row>, AllocError>
-    ensures { IfOk result (λ rows. rows.items ≡ statements.with_indexes standing indexes.now table.now) }
-{
-    let mut rows = Vec::new(alloc);
-    'each: for index in indexes {
-        rows.push(index_row(alloc, standing, index)?)?;
-    }
-    push_rows(alloc, &mut rows, table)?;
-    Ok(rows)
 }
 
 fn is_listed(indexes: &[Index], name: &Name) -> bool
@@ -297,7 +250,7 @@ fn is_listed(indexes: &[Index], name: &Name) -> bool
     false
 }
 
-#[tactic(auto, using(crate::proofs::Appended::least_rules))]
+#[tactic(auto, using(ws_types::proofs::Appended::least_rules))]
 fn header_index(
     found: &mut Option<Refusal>,
     table: &[Row],
@@ -317,7 +270,7 @@ fn header_index(
 }
 
 /// A FORALL header, whose index names stand in none of its bounds (Fortran 2018, 10.2.4.1).
-#[tactic(auto, using(crate::proofs::Appended::least_rules))]
+#[tactic(auto, using(ws_types::proofs::Appended::least_rules))]
 pub fn header(
     found: &mut Option<Refusal>,
     table: &[Row],
@@ -332,7 +285,7 @@ pub fn header(
     }
 }
 
-#[tactic(auto, using(crate::proofs::Appended::least_rules), unfolding(crate::specs::Statements::scalar_mask_faults))]
+#[tactic(auto, using(ws_types::proofs::Appended::least_rules), unfolding(crate::specs::Statements::scalar_mask_faults))]
 fn check_scalar_mask(found: &mut Option<Refusal>, line: u32, mask: Option<Typed>)
     ensures { found.new ≡ least_from found.old (statements.scalar_mask_faults line mask) }
 {
@@ -345,7 +298,7 @@ fn check_scalar_mask(found: &mut Option<Refusal>, line: u32, mask: Option<Typed>
     note(found, is_above(0, mask), line, RefusalKind::RankWrong);
 }
 
-#[tactic(auto, using(crate::proofs::Appended::least_rules))]
+#[tactic(auto, using(ws_types::proofs::Appended::least_rules))]
 pub fn forall_mask(found: &mut Option<Refusal>, table: &[Row], line: u32, mask: &Option<Expr>)
     ensures { found.new ≡ least_from found.old (statements.forall_mask_faults table.now line mask.now) }
 {
@@ -358,7 +311,7 @@ pub fn forall_mask(found: &mut Option<Refusal>, table: &[Row], line: u32, mask: 
     }
 }
 
-#[tactic(auto, using(crate::proofs::Walks::subscripts_rules), unfolding(ws_tree::specs::Opened::trees_open))]
+#[tactic(auto, using(ws_types::proofs::Walks::subscripts_rules), unfolding(ws_tree::specs::Opened::trees_open))]
 fn has_vector(table: &[Row], e: &Expr) -> bool
     ensures { result ≡ statements.has_vector table.now e.now }
 {
@@ -372,7 +325,7 @@ fn has_vector(table: &[Row], e: &Expr) -> bool
 }
 
 /// An item of READ, which has no vector subscript (Fortran 2018, 9.5.3.3.2).
-#[tactic(auto, using(crate::proofs::Appended::least_rules))]
+#[tactic(auto, using(ws_types::proofs::Appended::least_rules))]
 fn item(found: &mut Option<Refusal>, table: &[Row], line: u32, e: &Expr)
     ensures { found.new ≡ least_from found.old (statements.item_faults table.now line e.now) }
 {
@@ -380,7 +333,7 @@ fn item(found: &mut Option<Refusal>, table: &[Row], line: u32, e: &Expr)
     note(found, has_vector(table, e), line, RefusalKind::RankWrong);
 }
 
-#[tactic(auto, using(crate::proofs::Appended::least_rules))]
+#[tactic(auto, using(ws_types::proofs::Appended::least_rules))]
 pub fn items(found: &mut Option<Refusal>, table: &[Row], line: u32, es: &[Expr])
     ensures { found.new ≡ least_from found.old (statements.items_faults table.now line es.now) }
 {
@@ -398,7 +351,7 @@ fn is_other_bounds(standing: Option<Standing>, count: usize) -> bool
     }
 }
 
-#[tactic(auto, using(crate::proofs::Appended::least_rules), unfolding(crate::specs::Statements::allocatable_faults))]
+#[tactic(auto, using(ws_types::proofs::Appended::least_rules), unfolding(crate::specs::Statements::allocatable_faults))]
 fn check_allocatable(found: &mut Option<Refusal>, line: u32, standing: Option<Standing>)
     ensures { found.new ≡ least_from found.old (statements.allocatable_faults line standing) }
 {
@@ -411,7 +364,7 @@ fn check_allocatable(found: &mut Option<Refusal>, line: u32, standing: Option<St
     );
 }
 
-#[tactic(auto, using(crate::proofs::Appended::least_rules))]
+#[tactic(auto, using(ws_types::proofs::Appended::least_rules))]
 fn allocated_bound(found: &mut Option<Refusal>, table: &[Row], line: u32, bound: &Bound)
     ensures { found.new ≡ least_from found.old (statements.allocated_bound_faults table.now line bound.now) }
 {
@@ -425,7 +378,7 @@ fn allocated_bound(found: &mut Option<Refusal>, table: &[Row], line: u32, bound:
     }
 }
 
-#[tactic(auto, using(crate::proofs::Appended::least_rules))]
+#[tactic(auto, using(ws_types::proofs::Appended::least_rules))]
 fn allocated_bounds(found: &mut Option<Refusal>, table: &[Row], line: u32, bounds: &[Bound])
     ensures { found.new ≡ least_from found.old (statements.allocated_bounds_faults table.now line bounds.now) }
 {
@@ -434,7 +387,7 @@ fn allocated_bounds(found: &mut Option<Refusal>, table: &[Row], line: u32, bound
     }
 }
 
-#[tactic(auto, using(crate::proofs::Appended::least_rules))]
+#[tactic(auto, using(ws_types::proofs::Appended::least_rules))]
 fn allocation(found: &mut Option<Refusal>, table: &[Row], line: u32, part: &Part)
     ensures { found.new ≡ least_from found.old (statements.allocation_faults table.now line part.now) }
 {
@@ -445,7 +398,7 @@ fn allocation(found: &mut Option<Refusal>, table: &[Row], line: u32, part: &Part
     allocated_bounds(found, table, line, part.shape.as_slice());
 }
 
-#[tactic(auto, using(crate::proofs::Appended::least_rules))]
+#[tactic(auto, using(ws_types::proofs::Appended::least_rules))]
 pub fn allocations(found: &mut Option<Refusal>, table: &[Row], line: u32, parts: &[Part])
     ensures { found.new ≡ least_from found.old (statements.allocations_faults table.now line parts.now) }
 {
@@ -460,7 +413,7 @@ fn deallocation(found: &mut Option<Refusal>, table: &[Row], line: u32, name: &Na
     check_allocatable(found, line, standing_of(table, name));
 }
 
-#[tactic(auto, using(crate::proofs::Appended::least_rules))]
+#[tactic(auto, using(ws_types::proofs::Appended::least_rules))]
 pub fn deallocations(found: &mut Option<Refusal>, table: &[Row], line: u32, names: &[Name])
     ensures { found.new ≡ least_from found.old (statements.deallocations_faults table.now line names.now) }
 {

@@ -53,3 +53,23 @@ fn the_first_fault_is_found(rt: HostRuntime) -> Result<(), Fail> {
     statement_examples();
     Ok(())
 }
+
+/// A program that declares nothing and does nothing.
+#[test]
+fn a_tree_is_kept(rt: HostRuntime) -> Result<(), Fail> {
+    let alloc = rt.alloc();
+    let tree = Tree {
+        name: Name::from_str(alloc, "main")?,
+        decls: Items::new(alloc),
+        body: Items::new(alloc),
+    };
+    match check(alloc, tree) {
+        Ok(checked) => {
+            assert_eq!(rt; checked.tree().name.as_str(), "main");
+            assert_eq!(rt; checked.table().len(), 0);
+            assert_eq!(rt; checked.constants().len(), 0);
+        }
+        Err(_) => assert!(rt; false),
+    }
+    Ok(())
+}

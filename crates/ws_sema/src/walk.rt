@@ -1,20 +1,19 @@
 //! The walk over statements.
 
 ghost use Rattle.std.specs.Prelude.{◌≡◌, OnOk, IfOk};
-ghost use Rattle.ws_sema.specs.Kinds.{least_from};
+ghost use Rattle.ws_types.specs.Kinds.{least_from};
+ghost use Rattle.ws_types.specs.Tables as tables;
 ghost use Rattle.ws_sema.specs.Statements as statements;
 
-use crate::expr::{expr, triplet_part};
-use crate::least::note;
-use crate::names::standing_of;
 use crate::stmt::{
     allocations, assignment, check_loop, check_mask, deallocations, enclosing_rank, forall_mask,
-    header, is_inside, items, push_rows, rank_of, scalar_expr, with_indexes,
+    header, is_inside, items, rank_of, scalar_expr,
 };
-use crate::types::{Row, Standing, Within};
+use crate::within::Within;
 use std::alloc::{AllocError, Global};
 use ws_base::{Name, Refusal, RefusalKind};
 use ws_tree::{Body, Else, Expr, Index, Stmt};
+use ws_types::{Row, Standing, expr, note, push_rows, standing_of, triplet_part, with_indexes};
 
 fn is_masked(within: Within) -> bool
     ensures { result ≡ statements.is_masked within }
@@ -168,7 +167,7 @@ fn body(
 }
 
 /// ALLOCATE, DEALLOCATE or READ.
-#[tactic(auto, using(crate::proofs::Appended::least_rules))]
+#[tactic(auto, using(ws_types::proofs::Appended::least_rules))]
 fn serial(found: &mut Option<Refusal>, table: &[Row], within: Within, line: u32, body: &Body)
     ensures { found.new ≡ least_from found.old (statements.serial_body_faults table.now within line body.now) }
 {
@@ -218,7 +217,7 @@ fn statement(
 }
 
 /// The variable and the expressions of a DO (Fortran 2018, 11.1.7.2).
-#[tactic(auto, using(crate::proofs::Appended::least_rules))]
+#[tactic(auto, using(ws_types::proofs::Appended::least_rules))]
 fn loop_header(
     found: &mut Option<Refusal>,
     table: &[Row],
@@ -239,7 +238,7 @@ fn loop_header(
 }
 
 /// The mask of a WHERE; gives its rank.
-#[tactic(auto, using(crate::proofs::Appended::least_rules))]
+#[tactic(auto, using(ws_types::proofs::Appended::least_rules))]
 fn where_mask(
     found: &mut Option<Refusal>,
     table: &[Row],
@@ -291,7 +290,7 @@ fn else_part(
     Ok(())
 }
 
-#[tactic(auto, using(crate::proofs::Appended::least_rules))]
+#[tactic(auto, using(ws_types::proofs::Appended::least_rules))]
 fn else_mask(
     found: &mut Option<Refusal>,
     table: &[Row],
@@ -317,7 +316,7 @@ fn else_mask(
 }
 
 /// The header and mask of a FORALL; gives the table in which its index names stand for its own variables.
-#[tactic(auto, using(crate::proofs::Appended::least_rules))]
+#[tactic(auto, using(ws_types::proofs::Appended::least_rules))]
 fn forall_header(
     alloc: Global,
     found: &mut Option<Refusal>,
@@ -326,7 +325,7 @@ fn forall_header(
     indexes: &[Index],
     mask: &Option<Expr>,
 ) -> Result<Vec<Row>, AllocError>
-    ensures value { IfOk result (λ rows. rows.items ≡ statements.inner table.now indexes.now) }
+    ensures value { IfOk result (λ rows. rows.items ≡ tables.inner table.now indexes.now) }
     ensures faults { OnOk result (found.new ≡ least_from found.old (statements.forall_header_faults table.now line indexes.now mask.now)) }
 {
     let barred = with_indexes(alloc, Standing::Barred, indexes, table)?;

@@ -14,4 +14,4 @@ returns-clause-led g c =
     let v' : View = g.S.Site.view c.args.site.now c.act.new.hand in
     let is : joined c.args.slot (total default_half g.M.Merge.kind _) ≡ c.effect_of-effect.result =
     sym (c.effect_of-effect.ensures ∙ ap (λ (x : ℤ). joined c.args.slot (total default_half g.M.Merge.kind x)) c.merged_cells-part.ensures.value) in
-    led_by v v0 v' c.effect_of-effect.result c.merged_cells-part.ensures.same (c.requires.next.0, c.requires.next.1 ∙ ap (λ (e : Effect). e ∷ c.requires.next.0) is) c.act.ensures.done
+    led_by v v0 v' c.effect_of-effect.result c.merged_cells-part.ensures.same (c.requires.begins.0, c.requires.begins.1.left_is ∙ ap (λ (e : Effect). e ∷ c.requires.begins.0) is) c.act.ensures.done

@@ -1,5 +1,5 @@
 use Rattle.std.proofs.Common.{◌≡◌, take, drop, []}
-use Rattle.ws_sema.specs.Kinds.{least_from}
+use Rattle.ws_types.specs.Kinds.{least_from}
 use Rattle.ws_sema.specs.Declarations as declarations
 use Rattle.ws_sema.proofs.decl.check_decls.Given as goal
 

@@ -1,6 +1,6 @@
 use Rattle.std.proofs.Common.{◌∙◌, sym, arith, ap, Some, drop, ◌+◌}
 use Rattle.ws_sema.specs.Declarations as declarations
-use Rattle.ws_sema.proofs.Appended.{front}
+use Rattle.ws_types.proofs.Appended.{front}
 use Rattle.ws_sema.proofs.Extents.{too_large-cons}
 use Rattle.ws_sema.proofs.decl.is_too_large.Goals as goal
 

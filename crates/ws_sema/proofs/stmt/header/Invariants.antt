@@ -1,5 +1,5 @@
 use Rattle.std.proofs.Common.{◌≡◌, take, drop, []}
-use Rattle.ws_sema.specs.Kinds.{least_from}
+use Rattle.ws_types.specs.Kinds.{least_from}
 use Rattle.ws_sema.specs.Statements as statements
 use Rattle.ws_sema.proofs.stmt.header.Given as goal
 

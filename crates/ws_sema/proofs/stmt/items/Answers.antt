@@ -1,6 +1,6 @@
 use Rattle.std.proofs.Common.{◌∙◌, sym, arith}
 use Rattle.ws_sema.specs.Statements as statements
-use Rattle.ws_sema.proofs.Appended.{next, done}
+use Rattle.ws_types.proofs.Appended.{next, done}
 use Rattle.ws_sema.proofs.stmt.items.Goals as goal
 
 pub each-preserved : goal.each-preserved

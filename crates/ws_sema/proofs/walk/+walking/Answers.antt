@@ -1,6 +1,6 @@
 use Rattle.std.proofs.Common.{◌∙◌, sym, arith}
 use Rattle.ws_sema.specs.Statements as statements
-use Rattle.ws_sema.proofs.Appended.{next, done}
+use Rattle.ws_types.proofs.Appended.{next, done}
 use Rattle.ws_sema.proofs.Blocks.{masked_noted, forall_noted, loop_noted, shared_noted, else_noted}
 use Rattle.ws_sema.proofs.walk.+walking.Goals as goal
 

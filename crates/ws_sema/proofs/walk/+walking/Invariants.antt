@@ -1,6 +1,6 @@
 use Rattle.std.proofs.Common.{◌≡◌, drop}
 use Rattle.std.specs.List.{flat_map}
-use Rattle.ws_sema.specs.Kinds.{least_from}
+use Rattle.ws_types.specs.Kinds.{least_from}
 use Rattle.ws_sema.specs.Statements as statements
 use Rattle.ws_sema.proofs.walk.+walking.Given as goal
 

@@ -16,8 +16,11 @@ is_left-requires g c =
     let m : ℕ = c.args.member in
     (let w = c.requires.passed.sound.sized in let l = c.requires.passed.live in omega (arith, w, l))
 
-pub enter-requires : goal.enter-requires
-enter-requires g c =
+pub enter-requires-clause-made : goal.enter-requires-clause-made
+enter-requires-clause-made g c = g.met.W.UnitWork.stays_made c.args.self.now.work c.args.plan.now c.requires.passed.entered_is.1
+
+pub enter-requires-clause-enters : goal.enter-requires-clause-enters
+enter-requires-clause-enters g c =
     let course : Course = g.W.UnitWork.course c.args.self.now.work c.args.plan.now in
     let k : CoreState = c.args.self.now.state in
     let p = c.args.self.now.pending in

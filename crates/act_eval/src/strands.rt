@@ -1,0 +1,149 @@
+//! The strands of a phase: an iteration of a Loop, a unit of a Part, the whole of a Set or a Join.
+
+ghost use Rattle.std.specs.Prelude.{◌≡◌, ◌+◌, ◌≤◌, IsTrue, List, length};
+ghost use Rattle.phase_ops.specs.declared.effect.Effect.{Effect};
+ghost use Rattle.phase_ops.specs.Partials.{is_reduction};
+ghost use Rattle.act_eval.specs.Sites.{Led};
+ghost use Rattle.act_eval.specs.Strands.{Begins, HasRoom, HasStrand, PartBegins, JoinBegins};
+
+use crate::acts::run_acts;
+use crate::chunks::Chunks;
+use crate::joins::run_join;
+use crate::parts::run_part;
+use crate::site::Site;
+use phase_ops::{Act, Phase};
+use scan_parts::{AllPart, AnyPart, CountPart, MaxvalPart, MinvalPart, ProductPart, SumPart};
+use ws_base::CallWord;
+
+/// A unit of a Part of any reduction.
+fn run_part_of<H, S: Site<H>>(
+    site: &S,
+    hand: &mut H,
+    kind: CallWord,
+    act: &Act,
+    from: u32,
+    count: u32,
+    cell: u64,
+    registers: &mut [i64],
+)
+    requires belongs { S.belongs site.now hand.old }
+    requires kind { IsTrue (is_reduction kind) }
+    requires limits { (from + count ≤ 65536) × (length act.now.ops ≤ 1048576) }
+    requires room { length act.now.ops ≤ length registers.old }
+    requires begins { (more : List Effect) × PartBegins (S.view site.now hand.old) kind act.now from count cell more }
+    ensures led { Led (S.view site.now hand.old) (S.view site.now hand.new) }
+    ensures left { (more : List Effect) → PartBegins (S.view site.now hand.old) kind act.now from count cell more → (S.view site.now hand.new).left ≡ more }
+    ensures long { length registers.new ≡ length registers.old }
+    ensures belongs { S.belongs site.now hand.new }
+{
+    match kind {
+        CallWord::Sum => {
+            let _sum: SumPart = run_part(site, hand, act, from, count, cell, registers);
+        }
+        CallWord::Product => {
+            let _product: ProductPart = run_part(site, hand, act, from, count, cell, registers);
+        }
+        CallWord::Minval => {
+            let _least: MinvalPart = run_part(site, hand, act, from, count, cell, registers);
+        }
+        CallWord::Maxval => {
+            let _greatest: MaxvalPart = run_part(site, hand, act, from, count, cell, registers);
+        }
+        CallWord::Count => {
+            let _count: CountPart = run_part(site, hand, act, from, count, cell, registers);
+        }
+        CallWord::Any => {
+            let _any: AnyPart = run_part(site, hand, act, from, count, cell, registers);
+        }
+        CallWord::All => {
+            let _all: AllPart = run_part(site, hand, act, from, count, cell, registers);
+        }
+        _ => {}
+    }
+}
+
+/// A Join of any reduction.
+fn run_join_of<H, S: Site<H>>(
+    site: &S,
+    hand: &mut H,
+    kind: CallWord,
+    first: u32,
+    count: u32,
+    slot: u32,
+)
+    requires belongs { S.belongs site.now hand.old }
+    requires kind { IsTrue (is_reduction kind) }
+    requires begins { (more : List Effect) × JoinBegins (S.view site.now hand.old) kind first count slot more }
+    ensures led { Led (S.view site.now hand.old) (S.view site.now hand.new) }
+    ensures left { (more : List Effect) → JoinBegins (S.view site.now hand.old) kind first count slot more → (S.view site.now hand.new).left ≡ more }
+    ensures belongs { S.belongs site.now hand.new }
+{
+    match kind {
+        CallWord::Sum => {
+            let _sum: SumPart = run_join(site, hand, first, count, slot);
+        }
+        CallWord::Product => {
+            let _product: ProductPart = run_join(site, hand, first, count, slot);
+        }
+        CallWord::Minval => {
+            let _least: MinvalPart = run_join(site, hand, first, count, slot);
+        }
+        CallWord::Maxval => {
+            let _greatest: MaxvalPart = run_join(site, hand, first, count, slot);
+        }
+        CallWord::Count => {
+            let _count: CountPart = run_join(site, hand, first, count, slot);
+        }
+        CallWord::Any => {
+            let _any: AnyPart = run_join(site, hand, first, count, slot);
+        }
+        CallWord::All => {
+            let _all: AllPart = run_join(site, hand, first, count, slot);
+        }
+        _ => {}
+    }
+}
+
+/// One strand of a phase over what is there: its effects are done, and no other.
+pub fn run_strand<H, S: Site<H>>(
+    site: &S,
+    hand: &mut H,
+    phase: &Phase,
+    chunks: Chunks,
+    strand: u32,
+    registers: &mut [i64],
+)
+    requires belongs { S.belongs site.now hand.old }
+    requires room { HasRoom phase.now (length registers.old) }
+    requires strand { HasStrand phase.now (S.view site.now hand.old).cells chunks.chunk chunks.count strand }
+    requires begins { (more : List Effect) × Begins (S.view site.now hand.old) phase.now chunks.chunk strand more }
+    ensures led { Led (S.view site.now hand.old) (S.view site.now hand.new) }
+    ensures left { (more : List Effect) → Begins (S.view site.now hand.old) phase.now chunks.chunk strand more → (S.view site.now hand.new).left ≡ more }
+    ensures long { length registers.new ≡ length registers.old }
+    ensures belongs { S.belongs site.now hand.new }
+{
+    match phase {
+        Phase::Set { acts, .. } => run_acts(site, hand, acts.as_slice(), 0, registers),
+        Phase::Loop { acts, .. } => run_acts(site, hand, acts.as_slice(), strand, registers),
+        Phase::Part {
+            act,
+            kind,
+            first,
+            ..
+        } => {
+            let from = chunks.start(strand);
+            let size = chunks.size(strand);
+            let cell = u64::from(*first) + u64::from(strand);
+            run_part_of(site, hand, *kind, act, from, size, cell, registers);
+        }
+        Phase::Join {
+            kind,
+            first,
+            slot,
+            ..
+        } => {
+            let units = chunks.units();
+            run_join_of(site, hand, *kind, *first, units, *slot);
+        }
+    }
+}

@@ -1,0 +1,11 @@
+use Rattle.std.proofs.Common.{◌≡◌, ℕ, ◌<◌, length, get_or}
+use Rattle.team_core.specs.Scratches.{untouched}
+use Rattle.team_core.proofs.Scratches.{opened}
+use Rattle.team_core.proofs.scratch.Scratch.open.Given as goal
+
+abbrev pub invariant-loop-at : goal.invariant-loop-at
+invariant-loop-at l = record {
+  long : length l.self.cells ≡ length l.cells;
+  first : l.self.round ≡ 0;
+  done : (k : ℕ) → k < l.at → get_or l.self.cells k untouched ≡ opened (get_or l.cells k 0);
+}

@@ -1,0 +1,5 @@
+use Rattle.team_core.specs.Shifts.{IsShift}
+use Rattle.team_core.proofs.tests.follow.Given as goal
+
+abbrev pub invariant-loop : goal.invariant-loop
+invariant-loop l = IsShift l.run.phases l.run.core 2

@@ -1,0 +1,9 @@
+pub mod Tallied
+pub mod Walks
+pub mod Blocks
+pub mod Elses
+pub mod Steps
+pub mod Numbers
+pub mod Summed
+pub mod Serial
+pub mod Regions

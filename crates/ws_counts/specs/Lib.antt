@@ -1,0 +1,5 @@
+pub mod Pieces
+pub mod Lists
+pub mod Counts
+pub mod Tallies
+pub mod Limits

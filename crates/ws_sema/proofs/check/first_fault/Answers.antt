@@ -1,6 +1,0 @@
-use Rattle.ws_sema.proofs.Order.{all_noted}
-use Rattle.ws_sema.proofs.check.first_fault.Goals as goal
-
-pub returns : goal.returns
-returns c = all_noted c.args.tree.now c.as_slice.result.now c.as_slice-2.result.now c.as_slice-3.result.now c.in_ok-table.table.items c.as_slice-4.result.now c.check_decls.new.found c.stmts.new.found
-    c.as_slice.ensures c.as_slice-2.ensures c.as_slice-3.ensures.value c.in_ok-table.ensures c.as_slice-4.ensures c.in_ok-_constants.ensures.faults c.in_ok-stmts.ensures

@@ -1,6 +1,0 @@
-use Rattle.std.proofs.Common.{◌≡◌, drop}
-use Rattle.ws_sema.specs.Constants as constants
-use Rattle.ws_sema.proofs.constant.constant_of.Given as goal
-
-abbrev pub invariant-each : goal.invariant-each
-invariant-each l = constants.constant_of l.table l.name ≡ constants.constant_of (drop l.constant-index l.table) l.name

@@ -1,5 +1,0 @@
-use Rattle.std.proofs.Common.{◌≡◌, ◌++◌, take}
-use Rattle.ws_sema.proofs.stmt.push_rows.Given as goal
-
-abbrev pub invariant-each : goal.invariant-each
-invariant-each l = l.rows.items ≡ l.initial.rows.items ++ take l.row-index l.table

@@ -1,0 +1,9 @@
+pub mod Kinds
+pub mod Names
+pub mod Operations
+pub mod Expressions
+pub mod Lists
+pub mod Constants
+pub mod Tables
+pub mod Sections
+pub mod Steps
