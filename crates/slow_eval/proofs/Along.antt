@@ -1,5 +1,5 @@
 -- There are as many values as places, and a fault comes at one of the places.
-use Rattle.std.proofs.Common.{◌≡◌, refl, sym, ap, ◌∙◌, ℕ, zero, suc, ◌<◌, List, [], ◌∷◌, map, length, All, Option, Some, None, IfSome, Result, Ok, Err, ℤ, pos, arith}
+use Rattle.std.proofs.Common.{◌≡◌, refl, ap, ℕ, suc, ◌<◌, List, [], ◌∷◌, map, length, All, Option, Some, None, IfSome, Result, Ok, Err, ℤ, pos, arith}
 use Rattle.std.specs.Prelude.{◌/◌, ◌%◌, ◌+ℤ◌}
 use Rattle.std.proofs.lemmas.List.Elements.{All-nil, All-cons}
 use Rattle.ws_base.specs.declared.fault.FaultName.{FaultName}

@@ -1,11 +1,11 @@
 -- What the definitions say of terms at each form, over the lists that the code goes over.
-use Rattle.std.proofs.Common.{◌≡◌, refl, sym, ap, ◌∙◌, subst, ℕ, List, [], ◌∷◌, ◌++◌, All, Ok, ℤ}
+use Rattle.std.proofs.Common.{◌≡◌, refl, ap, ℕ, List, [], ◌∷◌, ◌++◌, All, Ok}
 use Rattle.std.proofs.lemmas.List.Elements.{All-nil, All-cons, All-head, All-tail}
 use Rattle.ws_base.specs.declared.op.CallWord.{CallWord}
-use Rattle.ws_base.specs.Outcomes.{Staged, ◌>>=◌}
+use Rattle.ws_base.specs.Outcomes.{◌>>=◌}
 use Rattle.ws_space.specs.declared.state.ArrayValue.{ArrayValue}
 use Rattle.ws_space.specs.Maps.{everywhere_same, call_map}
-use Rattle.ws_space.specs.Shapes.{Extents, count}
+use Rattle.ws_space.specs.Shapes.{count}
 use Rattle.ws_space.specs.Sections.{here, beyond, full_column, triplet_column, elements_at, places_at}
 use Rattle.array_meaning.specs.declared.term.Term.{Term}
 use Rattle.array_meaning.specs.declared.term.Term.TheVariants.{Section, Call}

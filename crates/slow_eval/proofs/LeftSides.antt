@@ -1,5 +1,5 @@
 -- Left sides, as the code finds them.
-use Rattle.std.proofs.Common.{◌≡◌, refl, sym, ap, ◌∙◌, subst, ℕ, ◌≤◌, Bool, List, [], ◌∷◌, All, Option, Some, None, Result, Ok, Err, IfOk, ℤ, arith}
+use Rattle.std.proofs.Common.{◌≡◌, refl, sym, ap, ◌∙◌, subst, ℕ, Bool, List, [], All, Ok, Err, IfOk, arith}
 use mathlib.Core.Path.{fun_ext}
 use Rattle.std.proofs.lemmas.List.Elements.{All-nil, All-cons}
 use Rattle.ws_base.specs.Outcomes.{Staged, ◌>>=◌}
@@ -17,11 +17,10 @@ use Rattle.array_meaning.specs.declared.world.World.{World}
 use Rattle.array_meaning.specs.declared.term.Pick.{Pick}
 use Rattle.array_meaning.specs.declared.term.Term.{Term}
 use Rattle.array_meaning.specs.declared.term.Term.TheVariants.{Section}
-use Rattle.array_meaning.specs.Stage1.{allocated, selected, picked, picks, whole_array}
-use Rattle.array_meaning.specs.Assign.{Target, selection, held_by, target}
+use Rattle.array_meaning.specs.Stage1.{allocated, selected, picked}
+use Rattle.array_meaning.specs.Assign.{selection, held_by, target}
 use Rattle.slow_eval.specs.declared.stop.Stop.{Stop}
-use Rattle.slow_eval.specs.declared.stop.Stop.TheVariants.{Memory, Failed}
-use Rattle.slow_eval.specs.Made.{Stops, Gives}
+use Rattle.slow_eval.specs.Made.{Stops}
 use Rattle.slow_eval.specs.Limits.{IsInteger, IsSmall, IsSmallSub, IsWorld, IsFew, IsSmallState, IsSmallArray, IsSmallTerm, IsSmallPick}
 use Rattle.slow_eval.specs.Lists as lists
 use Rattle.array_meaning.proofs.Chains.{after_fact}

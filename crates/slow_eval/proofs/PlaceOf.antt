@@ -1,10 +1,9 @@
 -- The place of an element, dimension by dimension.
-use Rattle.std.proofs.Common.{◌≡◌, refl, sym, ap, subst, ◌∙◌, ℕ, zero, suc, ◌+◌, ◌-◌, ◌*◌, ◌<◌, ◌≤◌, Bool, true, false, List, [], ◌∷◌, length, take, drop, get_or, Result, Ok, Err, IfOk, ℤ, pos, ◌-ℤ◌, arith}
+use Rattle.std.proofs.Common.{◌≡◌, refl, sym, ap, subst, ◌∙◌, ℕ, ◌+◌, ◌-◌, ◌*◌, ◌<◌, ◌≤◌, Bool, true, false, List, ◌∷◌, length, take, drop, get_or, Ok, Err, ℤ, pos, ◌-ℤ◌, arith}
 use Rattle.ws_base.specs.declared.fault.FaultName.{FaultName}
 use Rattle.ws_base.specs.declared.fault.FaultName.TheVariants.{Bounds}
-use Rattle.ws_base.specs.Outcomes.{◌>>=◌}
 use Rattle.ws_space.specs.declared.shape.Dim.{Dim}
-use Rattle.ws_space.specs.Shapes.{dims, extents_of, size, natural, within, distance, place}
+use Rattle.ws_space.specs.Shapes.{extents_of, size, natural, within, distance, place}
 use Rattle.ws_space.proofs.Distances.{distance_below}
 use Rattle.ws_space.proofs.Whole.{plane_below, factor_below}
 use Rattle.slow_eval.specs.Limits.{IsFew}

@@ -1,11 +1,11 @@
 -- The values of small terms are default integers, and no more than an array may have elements.
-use Rattle.std.proofs.Common.{◌≡◌, refl, sym, ap, ◌∙◌, ℕ, zero, suc, ◌≤◌, ◌*◌, true, false, List, [], ◌∷◌, ◌++◌, map, length, All, Result, Ok, Err, IfOk, ℤ, pos, arith}
+use Rattle.std.proofs.Common.{refl, ℕ, zero, suc, ◌≤◌, true, false, List, [], ◌∷◌, map, length, All, Result, Ok, Err, IfOk, ℤ, arith}
 use Rattle.std.specs.Prelude.{Bool, if◌then◌else◌}
 use Rattle.std.proofs.lemmas.List.Elements.{All-nil, All-cons, All-head, All-tail, All-append}
 use Rattle.ws_base.specs.declared.fault.FaultName.{FaultName}
 use Rattle.ws_base.specs.declared.fault.FaultName.TheVariants.{Shape as Shape'}
 use Rattle.ws_base.specs.Numbers.{default_half, unary_value, call_value}
-use Rattle.ws_base.specs.Outcomes.{Staged, trouble, ◌>>=◌, joined, each, rows, pair_up}
+use Rattle.ws_base.specs.Outcomes.{Staged, trouble, joined, each, rows, pair_up}
 use Rattle.ws_space.specs.declared.state.ArrayValue.{ArrayValue}
 use Rattle.ws_space.specs.Faults.{over_all_places}
 use Rattle.ws_space.specs.Maps.{pair_value}

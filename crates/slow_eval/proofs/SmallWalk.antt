@@ -1,5 +1,5 @@
 -- The first stage of a small expression leaves a small term.
-use Rattle.std.proofs.Common.{◌≡◌, refl, sym, ap, ◌∙◌, ℕ, zero, suc, ◌≤◌, Bool, true, false, List, [], ◌∷◌, map, length, All, Option, Some, None, IfSome, Result, Ok, Err, IfOk, ℤ, pos, negsuc, bytes_eq, arith}
+use Rattle.std.proofs.Common.{◌≡◌, refl, ap, ℕ, suc, ◌≤◌, Bool, true, false, List, [], ◌∷◌, map, length, All, Option, Some, None, IfSome, Ok, IfOk, ℤ, pos, bytes_eq, arith}
 use Rattle.std.specs.Prelude.{nat_lt, if◌then◌else◌}
 use Rattle.std.proofs.lemmas.Bool.{lt-ltb, ltb-false}
 use Rattle.std.proofs.lemmas.List.Elements.{All-nil, All-cons, All-head, All-tail}
@@ -9,18 +9,17 @@ use Rattle.ws_base.specs.declared.op.UnOp.{UnOp}
 use Rattle.ws_base.specs.declared.op.UnOp.TheVariants as un
 use Rattle.ws_base.specs.declared.op.CallWord.{CallWord}
 use Rattle.ws_base.specs.declared.op.CallWord.TheVariants as word
-use Rattle.ws_base.specs.Numbers.{default_half, exact, truth, unary_value, binary_value, call_value, reduction}
+use Rattle.ws_base.specs.Numbers.{default_half, exact, unary_value, binary_value, call_value, reduction}
 use Rattle.ws_base.specs.Outcomes.{Staged, trouble, scalar_of, ◌>>=◌}
 use Rattle.ws_space.specs.declared.shape.Dim.{Dim}
 use Rattle.ws_space.specs.declared.shape.TheConstants.{ELEMENT_LIMIT}
 use Rattle.ws_space.specs.declared.state.ArrayValue.{ArrayValue}
 use Rattle.ws_space.specs.declared.state.VarState.{VarState}
 use Rattle.ws_space.specs.declared.state.VarState.TheVariants as state
-use Rattle.ws_space.specs.declared.state.Var.{Var}
 use Rattle.ws_space.specs.Inquiries.{dim_at, size_value, lower_bound, upper_bound}
-use Rattle.ws_space.specs.Sections.{checked_subscript, checked_triplet, limited, omitted_upper}
+use Rattle.ws_space.specs.Sections.{checked_subscript, checked_triplet, omitted_upper}
 use Rattle.ws_space.specs.Shapes.{Extents, dims, extents_of, size}
-use Rattle.ws_space.specs.Values.{element, state_of, held}
+use Rattle.ws_space.specs.Values.{element, state_of}
 use Rattle.ws_tree.specs.declared.expr.Expr.{Expr}
 use Rattle.ws_tree.specs.declared.expr.Expr.TheVariants.{Number, TooWide, TooDeep, Truth, Named, Part', Call', Vector'}
 use Rattle.ws_tree.specs.declared.expr.Sub.{Sub}
@@ -30,7 +29,7 @@ use Rattle.ws_tree.specs.Grammatical.{count}
 use Rattle.array_meaning.specs.declared.world.World.{World}
 use Rattle.array_meaning.specs.declared.world.Constant.{Constant}
 use Rattle.array_meaning.specs.declared.term.Term.{Term}
-use Rattle.array_meaning.specs.declared.term.Term.TheVariants.{Scalar, Listed, Section', Call' as CallOf', Section, Call}
+use Rattle.array_meaning.specs.declared.term.Term.TheVariants.{Scalar, Listed, Section', Call' as CallOf'}
 use Rattle.array_meaning.specs.declared.term.Pick.{Pick}
 use Rattle.array_meaning.specs.declared.term.Pick.TheVariants as pick
 use Rattle.array_meaning.specs.Terms.{terms_open, unary_term, binary_term}

@@ -2,7 +2,7 @@
 use Rattle.std.proofs.Common.{◌≡◌, ℕ, ◌≤◌, ◌<◌, ◌*◌, ◌^◌, ℤ, pos, ◌+ℤ◌, ◌-ℤ◌, ◌*ℤ◌, unsigned_abs, FitsSigned, to_z, of_z, w32, w64, sym, ap, subst, ◌∙◌, arith}
 use Rattle.std.specs.Int.{w128}
 use Rattle.std.proofs.Math.Nat.{mul-le-mul_left}
-use Rattle.std.proofs.lemmas.Int.{ints, to_z-of_z, fits_signed_from_abs, fits_signed_mul, unsigned_abs-mul}
+use Rattle.std.proofs.lemmas.Int.{ints, to_z-of_z, fits_signed_from_abs, unsigned_abs-mul}
 
 small : (z : ℤ) → FitsSigned w32 z → unsigned_abs z ≤ 2147483648
 small z h = omega (arith, ints)
@@ -27,7 +27,7 @@ stepped-is l s a b d k fl fs low ea eb ed =
     let sd : to_z w64 (of_z w64 d) ≡ s = ap (λ z. to_z w64 (of_z w64 z)) (ed ∙ to_z-of_z w32 s fs) ∙ to_z-of_z w64 s (wide s fs) in
     let few : unsigned_abs (pos k *ℤ s) ≤ 9223372034707292160 = product-small k s low fs in
     let product : to_z w64 (of_z w64 (to_z w64 (of_z w64 b) *ℤ to_z w64 (of_z w64 d))) ≡ pos k *ℤ s =
-        ap (λ z. to_z w64 (of_z w64 (z *ℤ to_z w64 (of_z w64 d)))) kb ∙ ap (λ z. to_z w64 (of_z w64 (pos k *ℤ z))) sd ∙ to_z-of_z w64 (pos k *ℤ s) (fits_signed_from_abs w64 (pos k *ℤ s) (omega (arith, few))) in
+    ap (λ z. to_z w64 (of_z w64 (z *ℤ to_z w64 (of_z w64 d)))) kb ∙ ap (λ z. to_z w64 (of_z w64 (pos k *ℤ z))) sd ∙ to_z-of_z w64 (pos k *ℤ s) (fits_signed_from_abs w64 (pos k *ℤ s) (omega (arith, few))) in
     ap (λ z. to_z w64 (of_z w64 (z +ℤ to_z w64 (of_z w64 (to_z w64 (of_z w64 b) *ℤ to_z w64 (of_z w64 d)))))) la
     ∙ ap (λ z. to_z w64 (of_z w64 (l +ℤ z))) product
     ∙ to_z-of_z w64 (l +ℤ pos k *ℤ s) (sum-fits l (pos k *ℤ s) fl few)

@@ -93,7 +93,7 @@ binary_value_is whole t u t' u' op at xs ys xs' ys' r is st su hx hy ex ey g =
     let left : values t at ≡ Ok xs = ap (λ x. values x at) (sym st) ∙ hx in
     let right : values u at ≡ Ok ys = ap (λ x. values x at) (sym su) ∙ hy in
     let both : (values t at >>= (λ p. values u at >>= (λ q. binary_map op at p q))) ≡ binary_map op at xs ys =
-        ap (λ x. x >>= (λ p. values u at >>= (λ q. binary_map op at p q))) left ∙ ap (λ y. y >>= (λ q. binary_map op at xs q)) right in
+    ap (λ x. x >>= (λ p. values u at >>= (λ q. binary_map op at p q))) left ∙ ap (λ y. y >>= (λ q. binary_map op at xs q)) right in
     subst (Gives r) (ap (λ p. binary_map op at p ys') ex ∙ ap (binary_map op at xs) ey ∙ sym both ∙ sym (binary_values op t u at) ∙ ap (λ x. values x at) (sym is)) g
 
 -- ---- as many as places

@@ -1,28 +1,23 @@
 -- What the definitions say of expressions at each form, over the lists that the code goes over.
-use Rattle.std.proofs.Common.{◌≡◌, refl, sym, ap, ◌∙◌, ℕ, ◌≤◌, false, true, List, [], ◌∷◌, ◌++◌, map, length, drop, All, Option, Some, None, IfSome, Ok, append-nil, ℤ, pos, arith}
+use Rattle.std.proofs.Common.{◌≡◌, refl, ap, ℕ, ◌≤◌, false, List, [], ◌∷◌, map, length, drop, All, Ok, append-nil}
 use mathlib.Core.Path.{fun_ext}
 use Rattle.std.proofs.Math.ListN.{drop_of_length-le}
 use Rattle.std.proofs.lemmas.List.Elements.{All-nil, All-cons, All-head, All-tail}
 use Rattle.ws_base.specs.declared.op.CallWord.{CallWord}
-use Rattle.ws_base.specs.declared.op.UnOp.{UnOp}
-use Rattle.ws_base.specs.declared.op.BinOp.{BinOp}
 use Rattle.ws_base.specs.Outcomes.{◌>>=◌}
 use Rattle.ws_space.specs.declared.shape.Dim.{Dim}
 use Rattle.ws_space.specs.Shapes.{dims}
 use Rattle.ws_space.specs.Values.{state_of}
 use Rattle.ws_tree.specs.declared.expr.Expr.{Expr}
-use Rattle.ws_tree.specs.declared.expr.Expr.TheVariants.{Part, Call, Vector, Named, Number, TooWide, TooDeep, Truth, Paren, Unary, Binary}
+use Rattle.ws_tree.specs.declared.expr.Expr.TheVariants.{Part, Call, Vector}
 use Rattle.ws_tree.specs.declared.expr.Expr.TheBlock.{hidden-the_row-Expr-1, hidden-the_row-Sub-0}
 use Rattle.ws_tree.specs.declared.expr.Sub.{Sub}
-use Rattle.ws_tree.specs.Grammatical.{count}
 use Rattle.ws_tree.specs.Opened.{trees_open}
 use Rattle.array_meaning.specs.declared.world.World.{World}
 use Rattle.array_meaning.specs.declared.term.Pick.{Pick}
-use Rattle.array_meaning.specs.declared.term.Term.{Term}
-use Rattle.array_meaning.specs.declared.term.Term.TheVariants.{Listed, Section}
+use Rattle.array_meaning.specs.declared.term.Term.TheVariants.{Listed}
 use Rattle.ws_types.specs.Operations.{is_inquiry}
-use Rattle.array_meaning.specs.Stage1.{walk, walks, picks, one_pick, allocated, selected, designator, inquired, known, called, value_of, unary_on, binary_on, name_in, dimension_in}
-use Rattle.array_meaning.specs.Assign.{Target, selection, target}
+use Rattle.array_meaning.specs.Stage1.{walk, walks, picks, one_pick, allocated, designator, called, value_of}
 use Rattle.slow_eval.specs.Limits.{IsSmall, AreSmall, AreSmallSubs, IsSmallSub}
 use Rattle.slow_eval.specs.Lists as lists
 

@@ -1,5 +1,5 @@
 -- What the first stage leaves of expressions, as the code finds it.
-use Rattle.std.proofs.Common.{◌≡◌, refl, sym, ap, ◌∙◌, subst, ℕ, ◌≤◌, true, false, List, [], ◌∷◌, length, map, drop, All, Option, Some, None, Result, Ok, Err, IfOk, append-nil, ℤ}
+use Rattle.std.proofs.Common.{◌≡◌, refl, sym, ap, ◌∙◌, subst, ℕ, ◌≤◌, true, false, List, [], ◌∷◌, length, map, drop, All, Result, Ok, Err, IfOk, append-nil, ℤ}
 use Rattle.std.specs.Prelude.{if◌then◌else◌}
 use Rattle.std.proofs.Math.ListN.{drop_of_length-le}
 use Rattle.ws_base.specs.declared.fault.FaultName.{FaultName}
@@ -26,9 +26,8 @@ use Rattle.ws_types.specs.Operations.{is_inquiry}
 use Rattle.array_meaning.specs.Stage1.{constant_of, allocated, named, designator, inquired, known, called, value_of, unary_on, binary_on, name_in, dimension_in, walk, walks}
 use Rattle.slow_eval.specs.declared.stop.Stop.{Stop}
 use Rattle.slow_eval.specs.Made.{Stops, Gives}
-use Rattle.slow_eval.specs.Limits.{IsSmall, AreSmall, IsSmallSub, IsWorld, IsSmallTerm}
+use Rattle.slow_eval.specs.Limits.{IsSmall, IsSmallSub, IsWorld, IsSmallTerm}
 use Rattle.slow_eval.specs.Lists as lists
-use Rattle.array_meaning.proofs.Chains.{after_fact}
 use Rattle.slow_eval.proofs.SmallWalk.{walk-small, walks-small}
 use Rattle.slow_eval.proofs.TermValues.{stops_first}
 use Rattle.slow_eval.proofs.WalkForms.{walks_list, walk_part, walk_call, walk_vector, small_part, small_call, small_vector, are_small_exprs}

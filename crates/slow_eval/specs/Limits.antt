@@ -1,5 +1,5 @@
 -- What keeps each number of an evaluation within its type. Every accepted program and every state that it reaches meet it.
-use Rattle.std.specs.Prelude.{◌≡◌, ◌≤◌, ◌<◌, true, List, length, Option, Some, None, ℤ}
+use Rattle.std.specs.Prelude.{◌≡◌, ◌≤◌, ◌<◌, true, length, ℤ}
 use Rattle.std.specs.List.{All}
 use Rattle.ws_base.specs.Numbers.{in_range, default_half}
 use Rattle.ws_space.specs.declared.shape.TheConstants.{ELEMENT_LIMIT}

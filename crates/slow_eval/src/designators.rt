@@ -165,6 +165,10 @@ pub fn designator(alloc: Global, array: &ArrayValue, picks: Items<Pick>) -> Resu
     }
     let dims = dims_of(alloc, &array.shape)?;
     let subscripts = only(alloc, picks.as_slice())?;
-    let value = element(dims.as_slice(), array.values.as_slice(), subscripts.as_slice())?;
+    let value = element(
+        dims.as_slice(),
+        array.values.as_slice(),
+        subscripts.as_slice(),
+    )?;
     Ok(Term::Scalar(value))
 }

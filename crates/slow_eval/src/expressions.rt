@@ -48,11 +48,7 @@ fn binary_on(alloc: Global, op: BinOp, t: Term, u: Term) -> Result<Term, Stop>
 {
     match (t, u) {
         (Term::Scalar(a), Term::Scalar(b)) => Ok(Term::Scalar(binary_value(op, a, b)?)),
-        (t, u) => Ok(Term::Binary(
-            op,
-            Boxed::new(alloc, t)?,
-            Boxed::new(alloc, u)?,
-        )),
+        (t, u) => Ok(Term::Binary(op, Boxed::new(alloc, t)?, Boxed::new(alloc, u)?)),
     }
 }
 
@@ -243,12 +239,7 @@ fn walks(alloc: Global, world: &World, es: &[Expr]) -> Result<Items<Term>, Stop>
 
 /// The subscripts of an array with these dimensions.
 #[cycle(walking)]
-pub fn picks(
-    alloc: Global,
-    world: &World,
-    dims: &[Dim],
-    subs: &[Sub],
-) -> Result<Items<Pick>, Stop>
+pub fn picks(alloc: Global, world: &World, dims: &[Dim], subs: &[Sub]) -> Result<Items<Pick>, Stop>
     requires world { IsWorld world.now }
     requires small { All IsSmallSub subs.now }
     ensures value { Gives result (lists.picks world.now dims.now subs.now) }

@@ -88,12 +88,7 @@ fn part_of(alloc: Global, world: &World, name: &str, subs: &[Sub]) -> Result<Ter
 /// The left side of an assignment, which in a WHERE does not change its shape. In an accepted program it is a name, with subscripts
 /// or without.
 #[tactic(auto, unfolding(ws_tree::specs::Opened::trees_open))]
-pub fn left_side(
-    alloc: Global,
-    in_where: bool,
-    world: &World,
-    left: &Expr,
-) -> Result<Target, Stop>
+pub fn left_side(alloc: Global, in_where: bool, world: &World, left: &Expr) -> Result<Target, Stop>
     requires world { IsWorld world.now }
     requires small { IsSmall left.now }
     ensures value { GivesTarget (space.state_of world.now.vars (assign.target_name left.now)) result (assign.target in_where world.now left.now) }

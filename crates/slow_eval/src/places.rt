@@ -116,7 +116,11 @@ pub fn elements_at(
     let mut made = Items::new(alloc);
     for i in 0..places.len() {
         let subscripts = row(alloc, columns, i)?;
-        let value = element(dims.as_slice(), array.values.as_slice(), subscripts.as_slice());
+        let value = element(
+            dims.as_slice(),
+            array.values.as_slice(),
+            subscripts.as_slice(),
+        );
         keep(&mut made, value)?;
     }
     Ok(made)

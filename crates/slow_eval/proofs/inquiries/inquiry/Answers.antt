@@ -1,7 +1,6 @@
-use Rattle.std.proofs.Common.{Ok, ap, sym, ◌∙◌}
+use Rattle.std.proofs.Common.{ap, sym, ◌∙◌}
 use Rattle.ws_space.specs.Values.{state_of}
 use Rattle.array_meaning.specs.Stage1.{allocated}
-use Rattle.slow_eval.specs.Lists.{name_in}
 use Rattle.slow_eval.proofs.Variables.{few-elements}
 use Rattle.slow_eval.proofs.inquiries.inquiry.Goals as goal
 

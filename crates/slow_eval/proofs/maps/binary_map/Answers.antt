@@ -1,4 +1,4 @@
-use Rattle.std.proofs.Common.{◌≡◌, ℤ, List, ◌∷◌, [], map, get_or, pos, length, sym, ap, ◌∙◌, arith, rules}
+use Rattle.std.proofs.Common.{◌≡◌, ℤ, List, ◌∷◌, [], get_or, pos, length, sym, ap, ◌∙◌, arith, rules}
 use Rattle.std.proofs.lemmas.Int.{to_z-of_z}
 use Rattle.std.proofs.lemmas.Grind.{common_steps}
 use Rattle.ws_base.specs.Numbers.{binary_value, default_half}

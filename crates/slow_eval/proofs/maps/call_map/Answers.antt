@@ -1,4 +1,4 @@
-use Rattle.std.proofs.Common.{◌≡◌, [], sym, ap, ◌∙◌, arith, rules}
+use Rattle.std.proofs.Common.{[], sym, ap, ◌∙◌, arith, rules}
 use Rattle.ws_base.specs.Numbers.{call_value, default_half}
 use Rattle.ws_base.specs.Outcomes.{rows}
 use Rattle.slow_eval.proofs.Columns.{rows-length, rows-at}

@@ -1,4 +1,4 @@
-use Rattle.std.proofs.Common.{ap, arith, length, sym, ◌∙◌}
+use Rattle.std.proofs.Common.{ap, arith, length}
 use Rattle.slow_eval.proofs.Made.{each_fault}
 use Rattle.slow_eval.proofs.maps.fails.Goals as goal
 

@@ -1,8 +1,7 @@
-use Rattle.std.proofs.Common.{◌≡◌, ℤ, pos, refl, get_or, FitsSigned, to_z, of_z, w64, rules, arith}
+use Rattle.std.proofs.Common.{pos, refl, get_or, FitsSigned, w64, rules, arith}
 use Rattle.std.proofs.lemmas.Int.{to_z-of_z}
 use Rattle.slow_eval.proofs.PlaceOf.{few-rest, place-below, place-err}
 use Rattle.slow_eval.proofs.places.+place.Goals as goal
-
 
 pub place-requires : goal.place-requires
 place-requires t c = (search rules, few-rest c.args.dims.now (record { lower = pos 0; extent = 0 }) _ c.in-len1-up.len_at_least refl _ c.in-Some.ensures.0 c.requires)

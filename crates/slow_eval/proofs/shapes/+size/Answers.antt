@@ -1,4 +1,3 @@
-use Rattle.std.proofs.Common.{arith}
 use Rattle.slow_eval.proofs.Elements.{size-few, size-many}
 use Rattle.slow_eval.proofs.shapes.+size.Goals as goal
 

@@ -1,4 +1,4 @@
-use Rattle.std.proofs.Common.{◌≡◌, ◌+◌, ◌++◌, ◌∷◌, [], suc, ap, sym, ◌∙◌, add-one, arith}
+use Rattle.std.proofs.Common.{◌≡◌, ◌+◌, ◌++◌, ◌∷◌, [], ap, sym, ◌∙◌, add-one, arith}
 use Rattle.ws_space.specs.Shapes.{places_from}
 use Rattle.slow_eval.proofs.Elements.{places_from-more}
 use Rattle.slow_eval.proofs.shapes.all_places.Goals as goal

@@ -70,9 +70,10 @@ all_values-values-requires t c =
     (of_terms t c.args.ts.now c.each.t-index c.t-item.result c.decreases c.each-test.true c.t-item.is, (subst IsSmallTerm (sym c.t-item.is) (c.requires.small c.each.t-index c.t-item.result c.each-test.true), c.requires.few))
 
 pub columns-column-requires : goal.columns-column-requires
-columns-column-requires t c =
-    (of_picks t c.args.picks.now c.each.pick-index c.pick-item.result c.decreases c.each-test.true c.pick-item.is,
-    (subst IsSmallPick (sym c.pick-item.is) (c.requires.small c.each.pick-index c.pick-item.result c.each-test.true), omega (arith, ap length c.as_slice.ensures, c.each.invariant.as_many, c.requires.few)))
+columns-column-requires t c = (
+  of_picks t c.args.picks.now c.each.pick-index c.pick-item.result c.decreases c.each-test.true c.pick-item.is,
+  (subst IsSmallPick (sym c.pick-item.is) (c.requires.small c.each.pick-index c.pick-item.result c.each-test.true), omega (arith, ap length c.as_slice.ensures, c.each.invariant.as_many, c.requires.few)),
+)
 
 pub columns-each-preserved : goal.columns-each-preserved
 columns-each-preserved t c =

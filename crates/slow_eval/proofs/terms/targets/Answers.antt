@@ -1,7 +1,5 @@
-use Rattle.std.proofs.Common.{Ok, Err, Result, [], List, ℕ, rules}
-use Rattle.array_meaning.specs.Stage2.{targets}
+use Rattle.std.proofs.Common.{Err, Result, List, ℕ, rules}
 use Rattle.slow_eval.specs.declared.stop.Stop.{Stop}
-use Rattle.slow_eval.specs.Made.{Gives}
 use Rattle.slow_eval.proofs.Along.{targets_along_of}
 use Rattle.slow_eval.proofs.TermValues.{target_stops, target_value, picks_small, array_small}
 use Rattle.slow_eval.proofs.terms.targets.Goals as goal
@@ -21,7 +19,7 @@ pub returns-in_err-columns-in-Section-clause-along : goal.returns-in_err-columns
 returns-in_err-columns-in-Section-clause-along c =
     let e : Result (List ℕ) Stop = Err c.in_err-columns-in-Section.field-0.0 in
     let s = targets_along_of c.args.t.now c.args.places.now e
-        (target_stops c.args.t.now c.in-Section.array c.in-Section.picks c.as_slice.result.now c.in-Section.is c.as_slice.ensures c.args.places.now c.in_err-columns-in-Section.field-0.0 c.in_err-columns-in-Section.ensures.value) in
+    (target_stops c.args.t.now c.in-Section.array c.in-Section.picks c.as_slice.result.now c.in-Section.is c.as_slice.ensures c.args.places.now c.in_err-columns-in-Section.field-0.0 c.in_err-columns-in-Section.ensures.value) in
     search (rules, s)
 
 pub returns-in_ok-columns-in-Section-clause-value : goal.returns-in_ok-columns-in-Section-clause-value

@@ -2,7 +2,6 @@ use Rattle.std.proofs.Common.{◌<◌, length, subst, sym, ap, ◌∙◌, All, a
 use Rattle.ws_space.specs.Shapes.{all_places}
 use Rattle.slow_eval.specs.Limits.{IsFew}
 use Rattle.slow_eval.proofs.Elements.{few_places}
-use Rattle.slow_eval.proofs.SmallWalk.{walk-small}
 use Rattle.slow_eval.proofs.terms.whole.Goals as goal
 
 pub values-requires-clause-few : goal.values-requires-clause-few
