@@ -50,19 +50,6 @@ places_from-length k (suc n) = ap suc (places_from-length (suc k) n)
 pub few_places : (e : Extents) (at at' : List ℕ) → size e ≤ 65536 → at ≡ all_places e → at' ≡ at → length at' ≤ 65536
 few_places e at at' h is same = omega (arith, ap length same, ap length is, places_from-length 0 (size e), h)
 
--- ---- agreement
-
-pub differ : (a b : Extents) → 1 ≤ length a → length b ≡ 0 → false ≡ same_extents a b
-differ [] b h k = absurd (omega (arith, h))
-differ (m ∷ a) [] h k = refl
-differ (m ∷ a) (n ∷ b) h k = absurd (omega (arith, k))
-
-pub agreed-next : (e f : Extents) (more : List Extents) (i : ℕ) → i < length more → f ≡ get_or more i f → same_extents e f ≡ true → agreed (e ∷ drop i more) ≡ agreed (f ∷ drop (i + 1) more)
-agreed-next e f more i h is same = rw (front more i f h is, same) refl
-
-pub agreed-differ : (e f : Extents) (more : List Extents) (i : ℕ) → i < length more → f ≡ get_or more i f → same_extents e f ≡ false → agreed (e ∷ drop i more) ≡ agreed (e ∷ f ∷ [])
-agreed-differ e f more i h is same = rw (front more i f h is, same) refl
-
 -- ---- one value at every place
 
 pub everywhere_is : (v : ℤ) (at : List ℕ) → everywhere_same v at ≡ replicate (length at) v

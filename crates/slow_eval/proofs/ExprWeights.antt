@@ -69,17 +69,6 @@ vector_is : (es : List Expr) → weight (Vector es) ≡ suc (exprs_weight es)
 unfolding trees_open
 vector_is es = ap suc (exprs_list es)
 
-range_is : (l u s : Option Expr) → sub_weight (sub.Range l u s) ≡ suc (part_weight l + part_weight u + part_weight s)
-unfolding trees_open
-range_is None None None = refl
-range_is None None (Some z) = refl
-range_is None (Some y) None = refl
-range_is None (Some y) (Some z) = refl
-range_is (Some x) None None = refl
-range_is (Some x) None (Some z) = refl
-range_is (Some x) (Some y) None = refl
-range_is (Some x) (Some y) (Some z) = refl
-
 -- ---- what the calls go down to
 
 pub of_part : (n : ℕ) (e : Expr) (x : List ℕ) (ss ss' : List Sub) → 2 * weight e ≡ n → e ≡ Part x ss → ss' ≡ ss → 2 * subs_weight ss' + 1 < n
@@ -106,12 +95,3 @@ of_exprs n es i e m low is = omega (arith, ap weight is, expr-within es i e low,
 
 pub of_subs : (n : ℕ) (ss : List Sub) (i : ℕ) (s : Sub) → 2 * subs_weight ss + 1 ≡ n → i < length ss → s ≡ get_or ss i s → 2 * sub_weight s < n
 of_subs n ss i s m low is = omega (arith, ap sub_weight is, sub-within ss i s low, m)
-
-pub lower_of : (n : ℕ) (r : Sub) (l u s : Option Expr) → 2 * sub_weight r ≡ n → r ≡ sub.Range l u s → 2 * part_weight l < n
-lower_of n r l u s m is = omega (arith, ap sub_weight is ∙ range_is l u s, m)
-
-pub upper_of : (n : ℕ) (r : Sub) (l u s : Option Expr) → 2 * sub_weight r ≡ n → r ≡ sub.Range l u s → 2 * part_weight u < n
-upper_of n r l u s m is = omega (arith, ap sub_weight is ∙ range_is l u s, m)
-
-pub stride_of : (n : ℕ) (r : Sub) (l u s : Option Expr) → 2 * sub_weight r ≡ n → r ≡ sub.Range l u s → 2 * part_weight s < n
-stride_of n r l u s m is = omega (arith, ap sub_weight is ∙ range_is l u s, m)

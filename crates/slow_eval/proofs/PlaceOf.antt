@@ -23,12 +23,6 @@ tail xs = take (length xs - 1) (drop 1 xs)
 few-rest-of : (d : Dim) (ds : List Dim) (i : ℤ) → within d i ≡ true → IsFew (extents_of (d ∷ ds)) → IsFew (extents_of ds)
 few-rest-of d ds i h few = factor_below d.extent (size (extents_of ds)) 65536 (omega (arith, distance_below d i h)) few
 
-place-outside-of : (d : Dim) (ds : List Dim) (i : ℤ) (is : List ℤ) → within d i ≡ false → place (d ∷ ds) (i ∷ is) ≡ Err Bounds
-place-outside-of d ds i is h = rw h refl
-
-place-ok-of : (d : Dim) (ds : List Dim) (i : ℤ) (is : List ℤ) (p : ℕ) → within d i ≡ true → place ds is ≡ Ok p → place (d ∷ ds) (i ∷ is) ≡ Ok (distance d.lower i + d.extent * p)
-place-ok-of d ds i is p h e = rw (h, e) refl
-
 place-err-of : (d : Dim) (ds : List Dim) (i : ℤ) (is : List ℤ) (n : FaultName) → within d i ≡ true → place ds is ≡ Err n → place (d ∷ ds) (i ∷ is) ≡ Err n
 place-err-of d ds i is n h e = rw (h, e) refl
 
@@ -49,11 +43,5 @@ module _ (ds : List Dim) (other d : Dim) (some : 1 ≤ length ds) (e : d ≡ get
     both_are : place ds is ≡ place (d ∷ tail ds) (i ∷ tail is)
     both_are = ap (λ l. place l is) dims_are ∙ ap (place (d ∷ tail ds)) (parts_of is (pos 0) some_subscripts ∙ ap (λ j. j ∷ tail is) (sym f))
 
-    pub place-outside : within d i ≡ false → Err Bounds ≡ place ds is
-    place-outside h = sym (both_are ∙ place-outside-of d (tail ds) i (tail is) h)
-
     pub place-err : (n : FaultName) → within d i ≡ true → Err n ≡ place (tail ds) (tail is) → Err n ≡ place ds is
     place-err n h r = sym (both_are ∙ place-err-of d (tail ds) i (tail is) n h (sym r))
-
-    pub place-ok : (p q far : ℕ) → (within d i ≡ true) × (far ≡ distance d.lower i) → Ok p ≡ place (tail ds) (tail is) → q ≡ far + d.extent * p → Ok q ≡ place ds is
-    place-ok p q far h r e = sym (both_are ∙ place-ok-of d (tail ds) i (tail is) p h.0 (sym r) ∙ ap (λ k. Ok (k + d.extent * p)) (sym h.1) ∙ ap Ok (sym e))

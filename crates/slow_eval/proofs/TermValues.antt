@@ -28,9 +28,6 @@ pub stops_first : {A B : Type 0} (s : Stop) (r : Staged A) (f : A → Staged B) 
 stops_first Memory r f h = tt
 stops_first (Failed t) r f h = ap (λ x. x >>= f) h
 
-pub stops_along : {A : Type 0} (s : Stop) (n : ℕ) (r : Staged (List A)) → Stops s r → Along n r → IsAlong (let e : Result (List A) Stop = Err s in e) n
-stops_along s n r h along = is_along (Err s) n r h along
-
 -- ---- sections
 
 module _ (t : Term) (a : ArrayValue) (ps ps' : List Pick) (is : t ≡ Section a ps) (same : ps' ≡ ps) (at : List ℕ) where

@@ -58,14 +58,6 @@ call_is : (w : CallWord) (ts : List Term) → weight (Call w ts) ≡ suc (terms_
 unfolding terms_open
 call_is w ts = ap suc (terms_list ts)
 
-unary_is : (op : UnOp) (t : Term) → weight (Unary op t) ≡ suc (weight t)
-unfolding terms_open
-unary_is op t = refl
-
-binary_is : (op : BinOp) (t u : Term) → weight (Binary op t u) ≡ suc (weight t + weight u)
-unfolding terms_open
-binary_is op t u = refl
-
 -- ---- what the calls go down to
 
 pub of_section : (n : ℕ) (t : Term) (a : ArrayValue) (ps ps' : List Pick) → 2 * weight t ≡ n → t ≡ Section a ps → ps' ≡ ps → 2 * picks_weight ps' + 1 < n
@@ -73,15 +65,6 @@ of_section n t a ps ps' m is same = let e : weight t ≡ suc (picks_weight ps') 
 
 pub of_call : (n : ℕ) (t : Term) (w : CallWord) (ts ts' : List Term) → 2 * weight t ≡ n → t ≡ Call w ts → ts' ≡ ts → 2 * terms_weight ts' + 1 < n
 of_call n t w ts ts' m is same = let e : weight t ≡ suc (terms_weight ts') = ap weight is ∙ call_is w ts ∙ ap (λ l. suc (terms_weight l)) (sym same) in omega (arith, e, m)
-
-pub of_unary : (n : ℕ) (t u u' : Term) (op : UnOp) → 2 * weight t ≡ n → t ≡ Unary op u → u' ≡ u → 2 * weight u' < n
-of_unary n t u u' op m is same = let e : weight t ≡ suc (weight u') = ap weight is ∙ unary_is op u ∙ ap (λ x. suc (weight x)) (sym same) in omega (arith, e, m)
-
-pub of_left : (n : ℕ) (t u v u' : Term) (op : BinOp) → 2 * weight t ≡ n → t ≡ Binary op u v → u' ≡ u → 2 * weight u' < n
-of_left n t u v u' op m is same = let e : weight t ≡ suc (weight u' + weight v) = ap weight is ∙ binary_is op u v ∙ ap (λ x. suc (weight x + weight v)) (sym same) in omega (arith, e, m)
-
-pub of_right : (n : ℕ) (t u v v' : Term) (op : BinOp) → 2 * weight t ≡ n → t ≡ Binary op u v → v' ≡ v → 2 * weight v' < n
-of_right n t u v v' op m is same = let e : weight t ≡ suc (weight u + weight v') = ap weight is ∙ binary_is op u v ∙ ap (λ x. suc (weight u + weight x)) (sym same) in omega (arith, e, m)
 
 term-within : (ts : List Term) (i : ℕ) (d : Term) → i < length ts → weight (get_or ts i d) ≤ terms_weight ts
 term-within [] i d h = absurd (omega (arith, h))
