@@ -1,2 +1,23 @@
-pub mod Associated
-pub mod Past
+mod Associated
+mod Past
+mod Front
+mod Made
+mod Columns
+mod Elements
+mod Forms
+pub mod Along
+mod Integers
+mod SmallTerms
+mod Variables
+mod LeftSides
+mod WalkValues
+mod ExprWeights
+mod Scalars
+mod Checks
+mod Weights
+mod TermValues
+mod Stepped
+mod OperandShapes
+mod WalkForms
+mod SmallWalk
+mod PlaceOf

@@ -16,7 +16,7 @@ const GREATEST: i64 = 2_147_483_647;
 /// A number past the range, which stands for any other.
 const PAST: i128 = 2_147_483_649;
 
-fn in_kind(value: i128) -> Result<i64, FaultName>
+pub fn in_kind(value: i128) -> Result<i64, FaultName>
     ensures { result ≡ exact default_half value }
 {
     if -2_147_483_648 <= value && value <= 2_147_483_647 {
@@ -26,7 +26,7 @@ fn in_kind(value: i128) -> Result<i64, FaultName>
     }
 }
 
-fn truth(value: bool) -> i64
+pub fn truth(value: bool) -> i64
     ensures { result ≡ numbers.truth value }
 {
     if value { 1 } else { 0 }
