@@ -179,7 +179,10 @@ fn operations_are_maps_over_places(rt: HostRuntime) -> Result<(), Fail> {
     assert_eq!(rt; minus.as_slice(), [-1, 2].as_slice());
     let sums = binary_map(alloc, BinOp::Add, &places, &[1, 2], &[30, 40])?;
     assert_eq!(rt; sums.as_slice(), [31, 42].as_slice());
-    assert_eq!(rt; everywhere(alloc, Ok(5), &places)?.as_slice(), [5, 5].as_slice());
+    assert_eq!(rt;
+        everywhere(alloc, Ok(5), &places)?.as_slice(),
+        [5, 5].as_slice()
+    );
     Ok(())
 }
 

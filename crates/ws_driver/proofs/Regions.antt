@@ -30,7 +30,10 @@ one_item (y ∷ z ∷ xs) x low high is = absurd (omega (arith, high))
 
 pub is_simple : (t : Tree) (decls : List Decl) (body : List Stmt) (d : Decl) (s : SmallSource) → decls ≡ t.decls → body ≡ t.body → 1 ≤ length decls → length decls < 2 → d ≡ get_or decls 0 d → s.name ≡ d.name →
     ((u : SmallSource) → u.name ≡ d.name → u.extent ≡ s.extent → d ≡ declared_as d.line u) → IsProgram d.name body s.value → IsSimple t s
-is_simple t decls body d s same_decls same_body low high first name form p =
-    (d.line, p.region, p.inner,
-     sym same_decls ∙ (one_item decls d low high first ∙ ap (λ e. e ∷ []) (form s name refl)),
-     sym same_body ∙ (p.is ∙ ap (λ x. record { line = p.region; body = Shared (record { line = p.inner; body = Assign (Named x) (Number s.value) } ∷ []) } ∷ []) (sym name)))
+is_simple t decls body d s same_decls same_body low high first name form p = (
+  d.line,
+  p.region,
+  p.inner,
+  sym same_decls ∙ (one_item decls d low high first ∙ ap (λ e. e ∷ []) (form s name refl)),
+  sym same_body ∙ (p.is ∙ ap (λ x. record { line = p.region; body = Shared (record { line = p.inner; body = Assign (Named x) (Number s.value) } ∷ []) } ∷ []) (sym name)),
+)

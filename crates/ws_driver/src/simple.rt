@@ -32,13 +32,7 @@ fn value_of(name: &Name, body: &Body) -> Option<u32>
         Body::Assign {
             left: Expr::Named(left),
             right: Expr::Number(value),
-        } => {
-            if *name == *left {
-                Some(*value)
-            } else {
-                None
-            }
-        }
+        } => { if *name == *left { Some(*value) } else { None } }
         _ => None,
     }
 }
