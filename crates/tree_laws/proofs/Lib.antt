@@ -1,0 +1,4 @@
+pub mod Expressions
+pub mod Good
+pub mod Moves
+pub mod Units

@@ -1,0 +1,6 @@
+//! Laws of the grammar.
+#![tactic(auto)]
+
+mod laws;
+
+pub use laws::every_tree_is_grammatical;
