@@ -2,10 +2,10 @@ pub mod Leads
 pub mod Addresses
 pub mod OpSteps
 pub mod ActSteps
-pub mod Exponents
 pub mod ValueSteps
 pub mod PartSteps
 pub mod JoinSteps
 pub mod Fitting
 pub mod StrandSteps
 pub mod Joining
+pub mod InOrder

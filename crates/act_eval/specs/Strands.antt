@@ -9,8 +9,8 @@ use Rattle.phase_ops.specs.declared.effect.Effect.{Effect}
 use Rattle.phase_ops.specs.declared.phase.Act.{Act}
 use Rattle.phase_ops.specs.declared.phase.Phase.{Phase}
 use Rattle.phase_ops.specs.declared.phase.Phase.TheVariants.{Set, Loop, Part, Join}
-use Rattle.phase_ops.specs.Phases.{Cells, cell_value, source, natural, pieces, partial_cells, gives, value_events, each_from, joined, summed, strands, strand_events, strand_effects}
-use Rattle.phase_ops.specs.Free.{In, stored, lessened, acts_of, count_value, IsChunk}
+use Rattle.phase_ops.specs.Phases.{Cells, cell_value, source, natural, pieces, partial_cells, gives, value_events, each_from, joined, summed, strands, strand_events, strand_effects, units, effects, unit_reads}
+use Rattle.phase_ops.specs.Free.{In, stored, lessened, acts_of, count_value, IsChunk, Apart, WellFormed}
 use Rattle.act_eval.specs.Sites.{View, Small, MayLook, part_given}
 
 -- the partials that a Join merges, from the last one on, fit a word at each step
@@ -52,6 +52,18 @@ pub record HasStrand (p : Phase) (m : Cells) (chunk count s : ℕ) : Type 0 wher
   pub count_is : count ≡ natural (count_value p m)
   pub chunks : AreChunks chunk count
   pub there : s < strands p m chunk
+
+-- The unit u may begin, of a phase whose strands are apart: its effects are what is left to do.
+pub record UnitBegins (v : View) (p : Phase) (chunk count u : ℕ) : Type 0 where
+  pub left_is : v.left ≡ effects p v.cells chunk u
+  pub may_read : (c : ℕ) → In c (unit_reads p v.cells chunk u) → In c v.may
+  pub apart : Apart p v.cells chunk
+  pub well : WellFormed p v.cells chunk
+  pub partials : PartialsFit p v.cells chunk
+  pub few_cells : length v.cells < 9223372036854775808
+  pub chunks : AreChunks chunk count
+  pub count_is : count ≡ natural (count_value p v.cells)
+  pub there : u < units p v.cells chunk
 
 -- a unit of a Part may begin
 pub record PartBegins (v : View) (k : CallWord) (act : Act) (from count cell : ℕ) (more : List Effect) : Type 0 where

@@ -22,5 +22,5 @@ pub use joins::run_join;
 pub use number::{binary_value, unary_value};
 pub use parts::run_part;
 pub use site::{End, Site, Worth};
-pub use strands::{run_strand, strands_of, units_of};
+pub use strands::{run_strand, run_strands, strands_of, units_of};
 pub use values::value_at;

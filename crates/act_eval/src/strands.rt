@@ -1,12 +1,12 @@
 //! The strands of a phase: an iteration of a Loop, a unit of a Part, the whole of a Set or a Join.
 
-ghost use Rattle.std.specs.Prelude.{◌≡◌, ℕ, ◌+◌, ◌≤◌, ◌<◌, IsTrue, List, length};
+ghost use Rattle.std.specs.Prelude.{◌≡◌, ℕ, ◌+◌, ◌≤◌, ◌<◌, IsTrue, List, [], length};
 ghost use Rattle.phase_ops.specs.declared.effect.Effect.{Effect};
 ghost use Rattle.phase_ops.specs.Partials.{is_reduction};
 ghost use Rattle.act_eval.specs.Sites.{Led};
 ghost use Rattle.phase_ops.specs.Phases.{Cells, natural, units, first_strand, strand_count};
 ghost use Rattle.phase_ops.specs.Free.{count_value};
-ghost use Rattle.act_eval.specs.Strands.{AreChunks, Begins, HasRoom, HasStrand, PartBegins, JoinBegins};
+ghost use Rattle.act_eval.specs.Strands.{AreChunks, Begins, HasRoom, HasStrand, PartBegins, JoinBegins, UnitBegins};
 
 use crate::acts::run_acts;
 use crate::chunks::Chunks;
@@ -170,5 +170,28 @@ pub fn run_strand<H, S: Site<H>>(
             let units = chunks.units();
             run_join_of(site, hand, *kind, *first, units, *slot);
         }
+    }
+}
+
+/// The strands of a unit, one after the other: their effects are done, and no other.
+pub fn run_strands<H, S: Site<H>>(
+    site: &S,
+    hand: &mut H,
+    phase: &Phase,
+    chunks: Chunks,
+    unit: u32,
+    registers: &mut [i64],
+)
+    requires belongs { S.belongs site.now hand.old }
+    requires room { HasRoom phase.now (length registers.old) }
+    requires begins { UnitBegins (S.view site.now hand.old) phase.now chunks.chunk chunks.count unit }
+    ensures done { (S.view site.now hand.new).left ≡ [] }
+    ensures long { length registers.new ≡ length registers.old }
+    ensures belongs { S.belongs site.now hand.new }
+{
+    let (first, count) = strands_of(phase, chunks, unit);
+    let end = first + count;
+    'strands: for strand in first..end {
+        run_strand(site, hand, phase, chunks, strand, registers);
     }
 }

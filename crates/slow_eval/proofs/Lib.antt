@@ -1,23 +1,16 @@
-mod Associated
-mod Past
-mod Front
-mod Made
-mod Columns
-mod Elements
-mod Forms
-pub mod Along
-mod Integers
-mod SmallTerms
-mod Variables
-mod LeftSides
-mod WalkValues
-mod ExprWeights
-mod Scalars
-mod Checks
-mod Weights
-mod TermValues
-mod Stepped
-mod OperandShapes
-mod WalkForms
-mod SmallWalk
-mod PlaceOf
+pub mod Taken
+pub mod InTurn
+pub mod Allocated
+pub mod ReadItems
+pub mod SameNames
+pub mod Ends
+pub mod Blocks
+pub mod Between
+pub mod Iterated
+pub mod Declares
+pub mod InOrder
+pub mod Forms
+pub mod DoForms
+pub mod BodyWeights
+pub mod CountedForms
+pub mod Runs

@@ -1,4 +1,4 @@
-pub mod Made
-pub mod Limits
-pub mod Lists
-pub mod Targets
+pub mod Allocation
+pub mod Input
+pub mod Machine
+pub mod Known

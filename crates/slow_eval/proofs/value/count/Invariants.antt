@@ -1,9 +1,0 @@
-use Rattle.std.proofs.Common.{◌≡◌, ◌≤◌, ◌+◌, drop}
-use Rattle.ws_base.specs.Numbers as numbers
-use Rattle.slow_eval.proofs.value.count.Given as goal
-
-abbrev pub invariant-loop-value : goal.invariant-loop-value
-invariant-loop-value l = record {
-  within : l.count ≤ l.value-index;
-  same : l.count + numbers.count_of (drop l.value-index l.values) ≡ numbers.count_of l.values;
-}

@@ -1,0 +1,21 @@
+mod Front
+mod Made
+pub mod Columns
+mod Elements
+mod Forms
+pub mod Along
+pub mod Integers
+pub mod SmallTerms
+mod Variables
+mod LeftSides
+pub mod WalkValues
+pub mod ExprWeights
+mod Scalars
+mod Checks
+mod Weights
+pub mod TermValues
+mod Stepped
+mod OperandShapes
+pub mod WalkForms
+pub mod SmallWalk
+mod PlaceOf

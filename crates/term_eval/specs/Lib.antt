@@ -1,0 +1,4 @@
+pub mod Made
+pub mod Limits
+pub mod Lists
+pub mod Targets

@@ -1,0 +1,2 @@
+mod Associated
+mod Past
