@@ -1,0 +1,17 @@
+pub mod Replaced
+pub mod Chosen
+pub mod Variables
+pub mod KeptLimits
+pub mod Narrow
+pub mod Halted
+pub mod Splits
+pub mod Followed
+pub mod MaskTerms
+pub mod WhereSteps
+pub mod SmallEvents
+pub mod AxisValues
+pub mod IndexValues
+pub mod OverForms
+pub mod OverValues
+pub mod Headers
+pub mod ForallRuns
