@@ -11,9 +11,9 @@ use Rattle.ws_sema.specs.Checks.{rule_faults}
 use Rattle.ws_driver.specs.declared.source.SourceEnd.{SourceEnd}
 use Rattle.ws_driver.specs.declared.source.SourceEnd.TheVariants as source
 
--- the tree that the grammar gives for the source's tokens
+-- the tree that the grammar gives for the source's tokens, which is the only one
 abbrev pub IsTree : List ℕ → Tree → Type 0
-IsTree bytes t = (ts : List Token) × IsTokens bytes ts × IsUnit (runs ts) t
+IsTree bytes t = (ts : List Token) × IsTokens bytes ts × IsUnit (runs ts) t × ((u : Tree) → IsUnit (runs ts) u → u ≡ t)
 
 -- A source that breaks the source form at this line. A statement that ends before it and is not of the grammar in its place comes first.
 abbrev pub IsFirstOf : Option ℕ → ℕ → ℕ → Type 0
@@ -34,6 +34,10 @@ IsRefused bytes r = ((r.kind ≡ Syntax) × IsSyntaxAt bytes r.line) ⊎ ((t : T
 -- an accepted source, as its tree: one that breaks no rule
 abbrev pub IsSource : List ℕ → Tree → Type 0
 IsSource bytes t = IsTree bytes t × (rule_faults t ≡ [])
+
+-- a source that is accepted; none of these is refused
+abbrev pub IsAccepted : List ℕ → Type 0
+IsAccepted bytes = (t : Tree) × IsSource bytes t
 
 abbrev pub IsSourceEnd : List ℕ → SourceEnd → Type 0
 IsSourceEnd bytes (source.Refused r) = IsRefused bytes r

@@ -6,10 +6,11 @@ ghost use Rattle.ws_driver.specs.Sources.{IsTree, IsSource, IsSourceEnd, IsBroke
 
 use crate::source::SourceEnd;
 use std::alloc::{AllocError, Global};
+use tree_laws::every_tree_is_grammatical;
 use ws_base::{Refusal, RefusalKind};
 use ws_lex::{LexEnd, TokenList, tokens};
 use ws_parse::{ParseEnd, parse, parse_front};
-use ws_sema::first_fault;
+use ws_sema::{CheckEnd, Checked, check};
 use ws_tree::Tree;
 
 /// The first line that breaks the source form or the grammar, of a source that breaks its form at a line.
@@ -46,13 +47,15 @@ fn tree_of(alloc: Global, source: &[u8]) -> Result<Tree, SourceEnd>
 }
 
 /// An accepted source, or the first line that is at fault and there the least kind.
-pub fn accepted(alloc: Global, source: &[u8]) -> Result<Tree, SourceEnd>
-    ensures tree { IfOk result (IsSource source.now) }
+pub fn accepted(alloc: Global, source: &[u8]) -> Result<Checked, SourceEnd>
+    ensures tree { IfOk result (λ checked. IsSource source.now checked) }
     ensures err { IfErr result (IsSourceEnd source.now) }
 {
     let tree = tree_of(alloc, source)?;
-    match first_fault(alloc, &tree)? {
-        None => Ok(tree),
-        Some(refusal) => Err(SourceEnd::Refused(refusal)),
+    every_tree_is_grammatical();
+    match check(alloc, tree) {
+        Ok(checked) => Ok(checked),
+        Err(CheckEnd::Refused(refusal)) => Err(SourceEnd::Refused(refusal)),
+        Err(CheckEnd::Memory) => Err(SourceEnd::Memory),
     }
 }

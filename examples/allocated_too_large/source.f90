@@ -1,0 +1,3 @@
+integer, allocatable :: p(:)
+allocate (p(65537))
+end

@@ -1,0 +1,3 @@
+integer :: a(3)
+read *, a
+end

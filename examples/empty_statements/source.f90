@@ -1,0 +1,3 @@
+integer :: n
+;n = 1;;
+end

@@ -1,0 +1,5 @@
+integer :: n
+!$omp parallel workshare
+n = sum([2147483647, 1, -1])
+!$omp end parallel workshare
+end

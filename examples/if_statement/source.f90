@@ -1,0 +1,3 @@
+integer :: n
+if (n == 0) n = 1
+end

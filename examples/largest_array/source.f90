@@ -1,0 +1,2 @@
+integer :: a(65536)
+end

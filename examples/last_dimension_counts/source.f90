@@ -1,0 +1,2 @@
+integer, dimension(2), dimension(3) :: a
+end

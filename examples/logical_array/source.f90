@@ -1,0 +1,3 @@
+logical :: t(2)
+t = [.true., .false.]
+end

@@ -1,0 +1,4 @@
+integer :: while
+do while = 1, 3
+end do
+end

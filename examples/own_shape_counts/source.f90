@@ -1,0 +1,2 @@
+integer, dimension(n) :: a(2)
+end

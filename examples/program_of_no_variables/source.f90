@@ -1,0 +1,2 @@
+program sum
+end program sum

@@ -1,0 +1,4 @@
+integer :: n, m
+read *, n
+read *, m
+end

@@ -1,0 +1,3 @@
+integer, allocatable :: p(:)
+p = 3
+end

@@ -1,0 +1,3 @@
+integer :: n
+n = .true.
+end

@@ -1,0 +1,4 @@
+integer :: n
+n = m
+n = *
+end

@@ -1,0 +1,2 @@
+integer, allocatable :: p(:)
+end

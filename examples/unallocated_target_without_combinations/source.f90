@@ -1,0 +1,4 @@
+integer :: i
+integer, allocatable :: p(:)
+forall (i = 1:0) p(i) = 1
+end

@@ -1,0 +1,5 @@
+integer :: a(2)
+!$omp parallel workshare
+a = c
+!$omp end parallel workshare
+end

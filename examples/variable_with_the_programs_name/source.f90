@@ -1,0 +1,3 @@
+program n
+integer :: n
+end
