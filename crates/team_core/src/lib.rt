@@ -19,4 +19,4 @@ pub use machine::{Machine, NotNow, UnitWork};
 pub use member::{MemberState, StepKind};
 pub use state::{CellList, CoreState, Counts, CountsList, Member, MemberList, Numbers};
 pub use team::Core;
-pub use units::longest;
+pub use units::{count_of, longest};

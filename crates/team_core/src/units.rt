@@ -62,7 +62,7 @@ fn number_at(cells: &[u64], source: Source) -> u32
 }
 
 /// The phase's count; that of a Set is 1.
-fn count_of(phase: &Phase, cells: &[u64]) -> u32
+pub fn count_of(phase: &Phase, cells: &[u64]) -> u32
     requires { HasCount phase.now cells.now }
     ensures value { result ≡ natural (count_value phase.now cells.now) }
     ensures few { result ≤ 65536 }

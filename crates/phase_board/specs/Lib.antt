@@ -1,0 +1,9 @@
+pub mod Rule
+pub mod Looking
+pub mod Held
+pub mod Passes
+pub mod Memories
+pub mod Prepared
+pub mod Closed
+pub mod Lending
+pub mod Logs
