@@ -1,0 +1,13 @@
+pub mod Built
+pub mod Kept
+pub mod Lines
+pub mod Numbers
+pub mod Opened
+pub mod Trees
+pub mod Rules
+pub mod RulesForms
+pub mod RulesLimits
+pub mod RulesPlaces
+pub mod RulesRegions
+pub mod RulesStatements
+pub mod RulesValues

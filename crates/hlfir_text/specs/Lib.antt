@@ -1,0 +1,4 @@
+pub mod KindText
+pub mod ModuleText
+pub mod OperandText
+pub mod WordText
