@@ -141,7 +141,7 @@ key_is ps m chunk team t h = phase_key (slice_index_or ps t no_phase) (memory_af
 
 -- ---- safe
 
-phases_apart : (chunk : ℕ) (is : IsChunk chunk) (before : Option Phase) (ps : List Phase) (m : Cells) → FreeFrom chunk before ps m → (t : ℕ) → t < length ps
+pub phases_apart : (chunk : ℕ) (is : IsChunk chunk) (before : Option Phase) (ps : List Phase) (m : Cells) → FreeFrom chunk before ps m → (t : ℕ) → t < length ps
     → ((s : ℕ) → s < t → key (slice_index_or ps s no_phase) (after ps m chunk s) chunk ≡ none_yet) → Apart (slice_index_or ps t no_phase) (after ps m chunk t) chunk
 phases_apart chunk is before [] m f t l keyless = absurd (omega arith)
 phases_apart chunk is before (p ∷ ps) m f zero l keyless = (f.1 chunk is).0
