@@ -51,6 +51,7 @@ same_list (x ∷ xs) [] e h = absurd (omega arith)
 same_list (x ∷ xs) (y ∷ ys) e h = λ i. h zero (omega arith) i ∷ same_list xs ys (omega arith) (λ k l. h (suc k) (omega arith)) i
 
 module _ (r : Run) (words closing finished : List ℕ) (entered key : ℕ) (a : AreClosed r words) (long : length closing ≡ length r.opening) (cells : (k : ℕ) → k < length closing → get_or closing k 0 ≡ get_or words (1 + k) 0)
+    (enough : length finished ≡ length r.phases)
     (fins : (t : ℕ) → t < length r.phases → get_or finished t 0 ≡ get_or words (2 + length r.opening + 4 * t) 0)
     (within : entered ≤ length r.phases)
     (earlier : (t : ℕ) → t + 1 < entered → none_yet ≤ get_or words (4 + length r.opening + 4 * t) 0)
@@ -80,6 +81,7 @@ module _ (r : Run) (words closing finished : List ℕ) (entered key : ℕ) (a : 
   pub outcome_is : IsOutcome r entered key closing finished
   outcome_is = let end = a.5 in record {
     within = within;
+    as_many = enough;
     cells_are = closing_is ∙ end.cells_are ∙ ap (memory_after (course_of r)) (sym entered_is) ∙ memory_is r.phases r.opening r.chunk r.team entered within;
     earlier = λ t l. let e = entered_is in sym (key_is r.phases r.opening r.chunk r.team t (omega (arith, l, within))) ∙ sym (end.keys t (omega (arith, l, e))) ∙ end.earlier t (omega (arith, l, e));
     last = λ t at. let e = entered_is in
@@ -128,12 +130,12 @@ done_front b passes rest last done e i d l =
 
 -- the same, by the numbers that the code has
 pub outcome_at : (r : Run) (words closing finished : List ℕ) (entered key n ph : ℕ) → n ≡ length r.opening → ph ≡ length r.phases → AreClosed r words → length closing ≡ length r.opening → ((k : ℕ) → k < length closing → get_or closing k 0 ≡ get_or words (1 + k) 0)
-    → ((t : ℕ) → t < length r.phases → get_or finished t 0 ≡ get_or words (2 + length r.opening + 4 * t) 0)
+    → length finished ≡ length r.phases → ((t : ℕ) → t < length r.phases → get_or finished t 0 ≡ get_or words (2 + length r.opening + 4 * t) 0)
     → entered ≤ ph → ((t : ℕ) → t + 1 < entered → none_yet ≤ get_or words (4 + n + 4 * t) 0) → (key < none_yet → (t : ℕ) × (t + 1 ≡ entered) × (get_or words (4 + n + 4 * t) 0 ≡ key)) → key ≤ none_yet
     → (none_yet ≤ key → (entered ≡ ph) × ((t : ℕ) → t < ph → none_yet ≤ get_or words (4 + n + 4 * t) 0)) → IsOutcome r entered key closing finished
-outcome_at r words closing finished entered key n ph en eph a long cells fins within earlier last most whole = subst (λ (z : ℕ × ℕ). entered ≤ z.1 → ((t : ℕ) → t + 1 < entered → none_yet ≤ get_or words (4 + z.0 + 4 * t) 0)
+outcome_at r words closing finished entered key n ph en eph a long cells enough fins within earlier last most whole = subst (λ (z : ℕ × ℕ). entered ≤ z.1 → ((t : ℕ) → t + 1 < entered → none_yet ≤ get_or words (4 + z.0 + 4 * t) 0)
     → (key < none_yet → (t : ℕ) × (t + 1 ≡ entered) × (get_or words (4 + z.0 + 4 * t) 0 ≡ key)) → key ≤ none_yet → (none_yet ≤ key → (entered ≡ z.1) × ((t : ℕ) → t < z.1 → none_yet ≤ get_or words (4 + z.0 + 4 * t) 0)) → IsOutcome r entered key closing finished)
-    (λ i. (sym en i, sym eph i)) (outcome_is r words closing finished entered key a long cells fins) within earlier last most whole
+    (λ i. (sym en i, sym eph i)) (outcome_is r words closing finished entered key a long cells enough fins) within earlier last most whole
 
 -- few finished units in each phase are few in all
 sum_few : (xs : List ℕ) (most : ℕ) → ((k : ℕ) → k < length xs → get_or xs k 0 ≤ most) → sum xs ≤ length xs * most

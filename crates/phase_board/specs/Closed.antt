@@ -20,6 +20,7 @@ finished_of r entered t = cond (ltb t entered) (units (phase_at r.phases t) (aft
 -- and how many units of each were finished.
 pub record IsOutcome (r : Run) (entered key_found : ℕ) (closing finished : List ℕ) : Type 0 where
   pub within : entered ≤ length r.phases
+  pub as_many : length finished ≡ length r.phases
   pub cells_are : closing ≡ after r.phases r.opening r.chunk entered
   pub earlier : (t : ℕ) → suc t < entered → key (phase_at r.phases t) (after r.phases r.opening r.chunk t) r.chunk ≡ none_yet
   pub last : (t : ℕ) → suc t ≡ entered → key (phase_at r.phases t) (after r.phases r.opening r.chunk t) r.chunk ≡ key_found

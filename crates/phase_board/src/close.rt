@@ -4,7 +4,7 @@ ghost use Rattle.std.specs.Prelude.{◌≡◌, ℕ, suc, ◌+◌, ◌*◌, ◌^�
 ghost use Rattle.std.specs.Mem.Slots.{slots_items, slots_len, IsFull};
 ghost use Rattle.phase_ops.specs.Phases.{none_yet};
 ghost use Rattle.phase_board.specs.Passes.{AllDone};
-ghost use Rattle.phase_board.specs.Closed.{IsOutcome};
+ghost use Rattle.phase_board.specs.Closed.{IsOutcome, finished_of};
 
 use crate::board::{Board, Pass, Spare};
 use crate::memory::Memory;
@@ -193,10 +193,11 @@ impl ClosedBoard {
         self.key
     }
 
-    /// How many units of a phase were finished.
+    /// How many units of a phase were finished: all, where it was entered, and else none.
     pub fn finished(&self, phase: u32) -> u64
-        requires { phase < length self.now.finished }
-        ensures { result ≡ slice_index self.now.finished phase }
+        requires { phase < length self.now.run.phases }
+        ensures value { result ≡ slice_index self.now.finished phase }
+        ensures units { result ≡ finished_of self.now.run self.now.entered phase }
     {
         self.finished.as_slice()[phase as usize]
     }

@@ -1,1 +1,4 @@
 pub mod Teams
+pub mod Reduced
+pub mod Added
+pub mod Idle

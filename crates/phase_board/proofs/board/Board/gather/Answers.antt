@@ -39,7 +39,7 @@ invariant_of-board c = let b = c.args.self in let last = c.in-Some.last in let p
     record {
       outcome = outcome_at b.run words c.read_back.new.into c.read_back-3.new.into c.outcome-entered.result.0 c.outcome-entered.result.1 c.len-2.result c.len-3.result c.len-2.ensures c.len-3.ensures shut (long ∙ s.0)
           (λ k l. c.read_back.ensures.words k (omega (arith, long, l)) ∙ ap (λ (i : ℕ). get_or words i 0) (let e : 1 + 1 * k ≡ 1 + k = omega arith in e))
-          (λ t l. c.read_back-3.ensures.words t (omega (arith, s, fin, l)) ∙ ap (λ (i : ℕ). get_or words (2 + i + 4 * t) 0) n)
+          (fin ∙ s.2) (λ t l. c.read_back-3.ensures.words t (omega (arith, s, fin, l)) ∙ ap (λ (i : ℕ). get_or words (2 + i + 4 * t) 0) n)
           c.outcome-entered.ensures.within c.outcome-entered.ensures.earlier c.outcome-entered.ensures.last c.outcome-entered.ensures.most c.outcome-entered.ensures.whole;
     }
 

@@ -1,0 +1,5 @@
+mod Adding
+mod Cells
+mod Idling
+mod Reducing
+mod Rows
