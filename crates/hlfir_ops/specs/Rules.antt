@@ -1,6 +1,6 @@
 -- The twelve rules of a module. Each says of one op, where it stands, whether it keeps the rule. What a region holds or yields is judged at the op that holds the
 -- region, and what stands inside a forall always at the forall.
-use Rattle.std.specs.Prelude.{◌≡◌, ℕ, ◌==◌, nat_lt, nat_le, Bool, true, not, ◌&&◌, ◌||◌, List, [], ◌∷◌, map, length, Option, count_by, if◌then◌else◌}
+use Rattle.std.specs.Prelude.{◌≡◌, ℕ, ◌==◌, nat_lt, nat_le, Bool, true, not, ◌&&◌, ◌||◌, List, [], ◌∷◌, ◌++◌, map, length, Option, count_by, if◌then◌else◌}
 use Rattle.std.specs.List.{list_all, list_any, flat_map}
 use Rattle.hlfir_ops.specs.declared.kinds.ValueKind.{ValueKind}
 use Rattle.hlfir_ops.specs.declared.what.What.{What}
@@ -9,10 +9,10 @@ use Rattle.hlfir_ops.specs.declared.op.ValueId.{ValueId}
 use Rattle.hlfir_ops.specs.declared.op.Op.{Op, out-Op}
 use Rattle.hlfir_ops.specs.declared.op.Region.{Region}
 use Rattle.hlfir_ops.specs.declared.op.Module.{Module}
-use Rattle.hlfir_ops.specs.Numbers.{order_of}
+use Rattle.hlfir_ops.specs.Numbers.{order_of, order_in}
 use Rattle.hlfir_ops.specs.RulesValues.{Value, values_of, is_expression, is_allocatable_declare}
 use Rattle.hlfir_ops.specs.RulesPlaces.{Around, Place, Site, module_sites}
-use Rattle.hlfir_ops.specs.RulesRegions.{ops_in, parts_in, first_value, first_kind, inside, yields_value, yields_target, yields_item, yields_truth, yields_header, yields_triplet, yields_pairs, yields_element}
+use Rattle.hlfir_ops.specs.RulesRegions.{ops_in, parts_in, first_value, first_kind, yields_value, yields_target, yields_item, yields_truth, yields_header, yields_triplet, yields_pairs, yields_element}
 use Rattle.hlfir_ops.specs.RulesForms.{has_regions, is_filled_where, takes, gives}
 use Rattle.hlfir_ops.specs.RulesStatements.{stands_in_where, stands_in_workshare, stands_in_program, sides_agree, same_truth, are_elsewheres, mask_fits, fits_forall, follows, also_follows, declares_first, reaches_by_box}
 use Rattle.hlfir_ops.specs.RulesLimits.{declares_in, declare_limit, is_small, item_limit, has_body, body_limit, size_of, size_limit, statement_count, step_count, fits_count, phases_of, temporaries_of}
@@ -118,7 +118,7 @@ own_limits bodies before w os kind = not (has_body w) || nat_lt bodies body_limi
 -- Inside an outermost assignment, where or forall stand at most 65536 ops and operands. Outside a workshare it has at most 512 phases and 64 temporaries.
 abbrev pub statement_fits : Bool → Bool → List Value → Op → Bool
 statement_fits masked shared vs op =
-    masked || nat_le (size_of (inside (out-Op op).regions)) size_limit && (shared || fits_count (statement_count vs op).phases (statement_count vs op).temporaries)
+    masked || nat_le (size_of (order_in (out-Op op).regions)) size_limit && (shared || fits_count (statement_count vs op).phases (statement_count vs op).temporaries)
 
 -- So have the expressions of a do_loop, allocmem or read, which are one step.
 abbrev pub expressions_fit : List Value → List Op → Bool
@@ -143,9 +143,9 @@ limits_fit a vs before op = own_limits a.bodies before (out-Op op).what (out-Op 
 
 -- ---- a module that keeps them all
 
--- which rules the op of this site keeps, from the first one to the twelfth
-abbrev pub kept : Facts → Place → Op → List Bool
-kept f p op =
+-- of the rules on the form of an op and what its regions yield, from the first to the seventh, whether it keeps them
+abbrev pub keeps_forms : Facts → Place → Op → List Bool
+keeps_forms f p op =
     are_defined p.defined (out-Op op).operands
     ∷ operands_fit p.around.elemental f.values op
     ∷ result_fits f.values op
@@ -153,13 +153,22 @@ kept f p op =
     ∷ yields_of f.values (out-Op op).what (out-Op op).regions
     ∷ sides_of f.values (out-Op op).what (out-Op op).regions
     ∷ realloc_of p.around.masked f.values (out-Op op).what (out-Op op).regions
-    ∷ where_of f.values (out-Op op).what (out-Op op).regions
+    ∷ []
+
+-- of the rules on statements, from the eighth to the twelfth
+abbrev pub keeps_statements : Facts → Place → Op → List Bool
+keeps_statements f p op =
+    where_of f.values (out-Op op).what (out-Op op).regions
     ∷ forall_of f.values (out-Op op).what (out-Op op).regions
     ∷ lists_fit p.around.own p.before op
     ∷ declares_fit p.around.own f.values p.before op
     ∷ limits_fit p.around f.values p.before op
     ∷ []
 
+abbrev pub kept : Facts → Place → Op → List Bool
+kept f p op = keeps_forms f p op ++ keeps_statements f p op
+
+-- It keeps all of them.
 abbrev pub keeps : Facts → Site → Bool
 keeps f s = list_all (λ b. b) (kept f s.place s.op)
 

@@ -9,7 +9,7 @@ use Rattle.hlfir_ops.specs.declared.what.What.TheVariants as what
 use Rattle.hlfir_ops.specs.declared.op.ValueId.{ValueId}
 use Rattle.hlfir_ops.specs.declared.op.Op.{Op, out-Op}
 use Rattle.hlfir_ops.specs.RulesValues.{Value, value_at, is_whole}
-use Rattle.hlfir_ops.specs.RulesRegions.{inside}
+use Rattle.hlfir_ops.specs.Numbers.{order_in}
 use Rattle.hlfir_ops.specs.RulesStatements.{declares}
 
 abbrev pub declare_limit : ℕ
@@ -129,7 +129,7 @@ counted_all vs c (op ∷ ops) = counted_all vs (counted vs c op) ops
 
 -- a statement: its op and those inside it
 abbrev pub statement_count : List Value → Op → Count
-statement_count vs op = let c = counted_all vs (counted vs nothing op) (inside (out-Op op).regions) in if c.begun then ended c else c
+statement_count vs op = let c = counted_all vs (counted vs nothing op) (order_in (out-Op op).regions) in if c.begun then ended c else c
 
 -- the expressions of one region, which are one step
 abbrev pub step_count : List Value → List Op → Count

@@ -1,6 +1,6 @@
 -- What regions hold and yield.
 use Rattle.std.specs.Prelude.{ℕ, ◌-◌, ◌*◌, ◌%◌, ◌==◌, nat_lt, Bool, true, false, not, ◌&&◌, ◌||◌, List, [], ◌∷◌, length, take, Option, Some, None, slice_get, if◌then◌else◌}
-use Rattle.std.specs.List.{list_all, list_any, flat_map}
+use Rattle.std.specs.List.{list_all, list_any}
 use Rattle.ws_base.specs.declared.name.Name.{Name}
 use Rattle.hlfir_ops.specs.declared.kinds.Elem.TheVariants.{I32, I1}
 use Rattle.hlfir_ops.specs.declared.kinds.ValueKind.{ValueKind}
@@ -10,7 +10,6 @@ use Rattle.hlfir_ops.specs.declared.what.What.TheVariants as what
 use Rattle.hlfir_ops.specs.declared.op.ValueId.{ValueId}
 use Rattle.hlfir_ops.specs.declared.op.Op.{Op, out-Op}
 use Rattle.hlfir_ops.specs.declared.op.Region.{Region, out-Region}
-use Rattle.hlfir_ops.specs.Numbers.{order_of}
 use Rattle.hlfir_ops.specs.RulesValues.{Value, value_at, kind_of, kind_at, is_scalar, is_place, is_target, is_vector_designate}
 
 -- ---- the ops of regions
@@ -22,13 +21,6 @@ ops_of None = []
 -- the ops of the region of this number, and none where there is no such region
 abbrev pub ops_in : List Region → ℕ → List Op
 ops_in regions k = ops_of (slice_get regions k)
-
-abbrev pub region_order : Region → List Op
-region_order region = order_of (out-Region region).ops
-
--- the ops inside these regions, in printed order
-abbrev pub inside : List Region → List Op
-inside = flat_map region_order
 
 -- ---- sorts of ops
 

@@ -8,9 +8,9 @@ use Rattle.hlfir_ops.specs.declared.what.What.TheVariants as what
 use Rattle.hlfir_ops.specs.declared.op.ValueId.{ValueId}
 use Rattle.hlfir_ops.specs.declared.op.Op.{Op, out-Op}
 use Rattle.hlfir_ops.specs.declared.op.Region.{Region, out-Region}
-use Rattle.hlfir_ops.specs.Numbers.{order_of}
+use Rattle.hlfir_ops.specs.Numbers.{order_of, order_in}
 use Rattle.hlfir_ops.specs.RulesValues.{Value, value_at, kind_at, same_elem, elem_of, rank_of, has_rank, is_mask, is_section, is_designate, is_allocatable_declare}
-use Rattle.hlfir_ops.specs.RulesRegions.{parts, parts_in, inside, last_of}
+use Rattle.hlfir_ops.specs.RulesRegions.{parts, parts_in, last_of}
 
 -- ---- sorts of statements
 
@@ -98,7 +98,7 @@ is_controlled vs n op = controls_rank vs n (out-Op op).what (out-Op op).regions
 
 -- A mask of truth values has the rank of all that it controls, which stands inside these regions.
 abbrev pub mask_fits : List Value → Option ValueKind → List Region → Bool
-mask_fits vs (Some k) rs = is_mask (Some k) && list_all (is_controlled vs (rank_of k)) (inside rs)
+mask_fits vs (Some k) rs = is_mask (Some k) && list_all (is_controlled vs (rank_of k)) (order_in rs)
 mask_fits vs None rs = false
 
 -- ---- forall

@@ -15,6 +15,9 @@ use hlfir_ops::{Module, Op, Region, ValueKind, What};
 use std::alloc::{AllocError, Global};
 use ws_base::Name;
 
+/// The most regions around an op that is printed. In a module within the rules no more than 132 are.
+const DEEPEST: usize = 200;
+
 /// The number after so many more. No module has more of anything than memory holds.
 fn after(number: usize, more: usize) -> Result<usize, AllocError>
     ensures { IfOk result (λ next. next ≡ number + more) }
@@ -32,6 +35,16 @@ fn value_count(kind: &Option<ValueKind>) -> usize
     match kind {
         Some(_) => 1,
         None => 0,
+    }
+}
+
+/// How many regions are around an op in a region of an op that has so many around it. Past the most, which bounds how deep printing calls itself,
+/// there is none, which counts as want of memory.
+fn inside(around: usize) -> Result<usize, AllocError> {
+    if around < DEEPEST {
+        Ok(around + 1)
+    } else {
+        Err(AllocError)
     }
 }
 
@@ -175,6 +188,7 @@ fn lone_word(what: &What, regions: usize) -> &'static [u8]
 #[cycle(lines)]
 fn put_op(
     text: &mut Vec<u8>,
+    around: usize,
     depth: usize,
     yields: Form,
     number: usize,
@@ -186,7 +200,7 @@ fn put_op(
     put_head(text, depth, yields, number, op)?;
     text.extend_from_slice(lone_word(&op.what, op.regions.len()))?;
     let first = after(number, value_count(&op.kind))?;
-    let next = put_regions(text, depth, &op.what, first, op.regions.as_slice())?;
+    let next = put_regions(text, around, depth, &op.what, first, op.regions.as_slice())?;
     Ok(next)
 }
 
@@ -194,6 +208,7 @@ fn put_op(
 #[cycle(lines)]
 fn put_regions(
     text: &mut Vec<u8>,
+    around: usize,
     depth: usize,
     what: &What,
     number: usize,
@@ -204,7 +219,7 @@ fn put_regions(
 {
     let mut next = number;
     'regions: for (k, region) in regions.iter().enumerate() {
-        next = put_region(text, depth, what, next, k, region)?;
+        next = put_region(text, around, depth, what, next, k, region)?;
     }
     put_closing(text, depth, what, regions.len())?;
     Ok(next)
@@ -214,6 +229,7 @@ fn put_regions(
 #[cycle(lines)]
 fn put_region(
     text: &mut Vec<u8>,
+    around: usize,
     depth: usize,
     what: &What,
     number: usize,
@@ -226,13 +242,22 @@ fn put_region(
     put_opening(text, depth, what, number, k)?;
     let inner = depth_in(depth, what, k)?;
     let first = after(number, names_in(what, k).len())?;
-    put_ops(text, inner, yields_in(what), first, region.ops.as_slice())
+    let around = inside(around)?;
+    put_ops(
+        text,
+        around,
+        inner,
+        yields_in(what),
+        first,
+        region.ops.as_slice(),
+    )
 }
 
 /// The ops of a region, or of the module.
 #[cycle(lines)]
 fn put_ops(
     text: &mut Vec<u8>,
+    around: usize,
     depth: usize,
     yields: Form,
     number: usize,
@@ -243,12 +268,12 @@ fn put_ops(
 {
     let mut next = number;
     'ops: for op in ops {
-        next = put_op(text, depth, yields, next, op)?;
+        next = put_op(text, around, depth, yields, next, op)?;
     }
     Ok(next)
 }
 
-/// The text of a module. It calls itself for each region, so it needs a stack as deep as the regions nest.
+/// The text of a module. A module whose regions nest far deeper than the rules allow is answered as want of memory.
 pub fn print(alloc: Global, module: &Module) -> Result<Vec<u8>, AllocError>
     ensures { IfOk result (λ text. text.items ≡ lines.module_text «module».now) }
 {
@@ -256,6 +281,6 @@ pub fn print(alloc: Global, module: &Module) -> Result<Vec<u8>, AllocError>
     text.extend_from_slice(b"module ")?;
     text.extend_from_slice(module.name.as_str().as_bytes())?;
     text.extend_from_slice(b"\n")?;
-    put_ops(&mut text, 0, Form::Listed, 0, module.ops.as_slice())?;
+    put_ops(&mut text, 0, 0, Form::Listed, 0, module.ops.as_slice())?;
     Ok(text)
 }

@@ -197,24 +197,26 @@ fn moved(alloc: Global, build: &mut Builder) -> Result<(), AllocError>
     Ok(())
 }
 
+fn five_elements() -> Shape {
+    let unused = Dim {
+        lower: 1,
+        extent: 1,
+    };
+    Shape {
+        rank: 1,
+        d1: Dim {
+            lower: 1,
+            extent: 5,
+        },
+        d2: unused,
+        d3: unused,
+    }
+}
+
 fn five() -> ValueKind {
     ValueKind::Declared {
         elem: Elem::I32,
-        shape: Shape {
-            rank: 1,
-            d1: Dim {
-                lower: 1,
-                extent: 5,
-            },
-            d2: Dim {
-                lower: 1,
-                extent: 1,
-            },
-            d3: Dim {
-                lower: 1,
-                extent: 1,
-            },
-        },
+        shape: five_elements(),
     }
 }
 
@@ -552,5 +554,76 @@ fn a_place_knows_what_is_around(rt: HostRuntime) -> Result<(), Fail> {
     assert!(rt; build.masked());
     assert_eq!(rt; build.line(), 13);
     assert_eq!(rt; build.index(&Name::from_str(alloc, "j")?), None);
+    Ok(())
+}
+
+/// So many constants
+fn sevens(alloc: Global, build: &mut Builder, count: u32) -> Result<(), AllocError>
+    ensures { OnOk result (build.new.around ≡ build.old.around) }
+{
+    'each: for _ in 0..count {
+        constant(alloc, build, 7)?;
+    }
+    Ok(())
+}
+
+/// An assignment of the first of so many constants
+fn crowded(alloc: Global, build: &mut Builder, constants: u32) -> Result<(), AllocError>
+    ensures { OnOk result (build.new.around ≡ build.old.around) }
+{
+    add(alloc, build, What::Assign { realloc: false }, 3, &[], None)?;
+    enter(build)?;
+    sevens(alloc, build, constants)?;
+    yields(alloc, build, &[2])?;
+    next(build)?;
+    yields(alloc, build, &[0])?;
+    leave(build);
+    Ok(())
+}
+
+/// WHERE in WHERE, so many deep, and in the innermost one an assignment
+fn nested(alloc: Global, build: &mut Builder, depth: u32, constants: u32) -> Result<(), AllocError>
+    ensures { OnOk result (build.new.around ≡ build.old.around) }
+{
+    if depth == 0 {
+        return crowded(alloc, build, constants);
+    }
+    add(alloc, build, What::Masked, 2, &[], None)?;
+    enter(build)?;
+    yields(alloc, build, &[1])?;
+    next(build)?;
+    nested(alloc, build, depth - 1, constants)?;
+    leave(build);
+    Ok(())
+}
+
+fn deep(alloc: Global, depth: u32, constants: u32) -> Result<Module, AllocError> {
+    let mut build = Builder::new(alloc, Name::from_str(alloc, "main")?);
+    declare(alloc, &mut build, "a", five())?;
+    let truths = ValueKind::Declared {
+        elem: Elem::I1,
+        shape: five_elements(),
+    };
+    declare(alloc, &mut build, "m", truths)?;
+    nested(alloc, &mut build, depth, constants)?;
+    Ok(build.finish())
+}
+
+#[test]
+fn a_large_module_is_printed(rt: HostRuntime) -> Result<(), Fail> {
+    let alloc = rt.alloc();
+    // The outermost WHERE holds 64 others, 65 masks' yields, the assignment with two yields, and the constants: 65,536 ops.
+    let text = print(alloc, &deep(alloc, 65, 65_404)?)?;
+    // Each constant's line begins with 132 blanks.
+    assert_eq!(rt; text.len(), 10_735_394);
+    assert!(rt; text.as_slice().ends_with(b"      }\n    }\n  }\n}\n"));
+    Ok(())
+}
+
+#[test]
+fn a_module_that_is_too_deep_is_not_printed(rt: HostRuntime) -> Result<(), Fail> {
+    let alloc = rt.alloc();
+    assert!(rt; print(alloc, &deep(alloc, 199, 1)?).is_ok());
+    assert!(rt; print(alloc, &deep(alloc, 200, 1)?).is_err());
     Ok(())
 }

@@ -1,0 +1,16 @@
+pub mod Runs
+pub mod KindParts
+pub mod Words
+pub mod Operands
+pub mod Subscripts
+pub mod Heads
+pub mod Indents
+pub mod Lines
+pub mod Goods
+pub mod Nests
+pub mod Starts
+pub mod Wheres
+pub mod Matched
+pub mod Kept
+pub mod Whole
+pub mod Examples

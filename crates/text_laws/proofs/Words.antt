@@ -1,0 +1,274 @@
+-- The word of an op stands for the op, but for what else its line holds.
+use Rattle.std.proofs.Common.{◌≡◌, refl, sym, ap, ◌∙◌, ℕ, Bool, true, false, ◌==◌, List, [], ◌∷◌, ◌++◌, Option, Some, None, ℤ, pos}
+use Rattle.std.specs.Prelude.{if◌then◌else◌}
+use Rattle.std.proofs.lemmas.List.{append_cancel_left}
+use Rattle.ws_base.specs.declared.name.Name.{Name}
+use Rattle.hlfir_ops.specs.declared.what.What.{What}
+use Rattle.hlfir_ops.specs.declared.what.What.TheVariants as what
+use Rattle.hlfir_ops.specs.declared.what.SubKind.{SubKind}
+use Rattle.hlfir_ops.specs.declared.what.ValueUnary.{ValueUnary}
+use Rattle.hlfir_ops.specs.declared.what.ValueUnary.TheVariants as unary
+use Rattle.hlfir_ops.specs.declared.what.ValueBinary.{ValueBinary}
+use Rattle.hlfir_ops.specs.declared.what.ValueBinary.TheVariants as binary
+use Rattle.hlfir_ops.specs.declared.what.BoundWord.{BoundWord}
+use Rattle.hlfir_ops.specs.declared.what.BoundWord.TheVariants as bound
+use Rattle.hlfir_ops.specs.declared.what.Reduction.{Reduction}
+use Rattle.hlfir_ops.specs.declared.what.Reduction.TheVariants as reduction
+use Rattle.hlfir_text.specs.WordText.{word}
+
+-- ---- what an op holds beside its word
+
+pub record Held : Type 0 where
+  pub name : Name
+  pub names : List Name
+  pub flag : Bool
+  pub value : ℤ
+  pub dim : ℕ
+  pub subs : List SubKind
+
+abbrev pub nothing : Held
+nothing = record { name = []; names = []; flag = false; value = pos 0; dim = 0; subs = [] }
+
+abbrev pub held : What → Held
+held (what.Declare name) = record nothing { name = name }
+held (what.Assign realloc) = record nothing { flag = realloc }
+held (what.Forall names) = record nothing { names = names }
+held (what.Allocmem also) = record nothing { flag = also }
+held (what.Freemem also) = record nothing { flag = also }
+held (what.Read also) = record nothing { flag = also }
+held (what.Constant value) = record nothing { value = value }
+held (what.Bound w dim) = record nothing { dim = dim }
+held (what.Designate subs) = record nothing { subs = subs }
+held _ = nothing
+
+-- the op of the same word that holds this
+abbrev pub holding : Held → What → What
+holding p (what.Declare name) = what.Declare p.name
+holding p (what.Assign realloc) = what.Assign p.flag
+holding p (what.Forall names) = what.Forall p.names
+holding p (what.Allocmem also) = what.Allocmem p.flag
+holding p (what.Freemem also) = what.Freemem p.flag
+holding p (what.Read also) = what.Read p.flag
+holding p (what.Constant value) = what.Constant p.value
+holding p (what.Bound w dim) = what.Bound w p.dim
+holding p (what.Designate subs) = what.Designate p.subs
+holding p w = w
+
+abbrev plain : What → What
+plain w = holding nothing w
+
+holding-own : (w : What) → holding (held w) w ≡ w
+holding-own (what.Declare name) = refl
+holding-own (what.Assign realloc) = refl
+holding-own what.Masked = refl
+holding-own what.Elsewhere = refl
+holding-own (what.Forall names) = refl
+holding-own what.ForallMask = refl
+holding-own what.Workshare = refl
+holding-own what.DoLoop = refl
+holding-own (what.Allocmem also) = refl
+holding-own (what.Freemem also) = refl
+holding-own (what.Read also) = refl
+holding-own what.Yield = refl
+holding-own what.YieldElement = refl
+holding-own (what.Constant value) = refl
+holding-own (what.Unary op) = refl
+holding-own (what.Binary op) = refl
+holding-own what.Select = refl
+holding-own what.Load = refl
+holding-own what.Boxed = refl
+holding-own (what.Bound w dim) = refl
+holding-own what.Size = refl
+holding-own what.Allocated = refl
+holding-own (what.Designate subs) = refl
+holding-own what.Vector = refl
+holding-own what.AsExpr = refl
+holding-own what.Elemental = refl
+holding-own what.Apply = refl
+holding-own (what.Reduce r) = refl
+
+holding-plain : (p : Held) (w : What) → holding p (plain w) ≡ holding p w
+holding-plain p (what.Declare name) = refl
+holding-plain p (what.Assign realloc) = refl
+holding-plain p what.Masked = refl
+holding-plain p what.Elsewhere = refl
+holding-plain p (what.Forall names) = refl
+holding-plain p what.ForallMask = refl
+holding-plain p what.Workshare = refl
+holding-plain p what.DoLoop = refl
+holding-plain p (what.Allocmem also) = refl
+holding-plain p (what.Freemem also) = refl
+holding-plain p (what.Read also) = refl
+holding-plain p what.Yield = refl
+holding-plain p what.YieldElement = refl
+holding-plain p (what.Constant value) = refl
+holding-plain p (what.Unary op) = refl
+holding-plain p (what.Binary op) = refl
+holding-plain p what.Select = refl
+holding-plain p what.Load = refl
+holding-plain p what.Boxed = refl
+holding-plain p (what.Bound w dim) = refl
+holding-plain p what.Size = refl
+holding-plain p what.Allocated = refl
+holding-plain p (what.Designate subs) = refl
+holding-plain p what.Vector = refl
+holding-plain p what.AsExpr = refl
+holding-plain p what.Elemental = refl
+holding-plain p what.Apply = refl
+holding-plain p (what.Reduce r) = refl
+
+word-plain : (w : What) → word (plain w) ≡ word w
+word-plain (what.Declare name) = refl
+word-plain (what.Assign realloc) = refl
+word-plain what.Masked = refl
+word-plain what.Elsewhere = refl
+word-plain (what.Forall names) = refl
+word-plain what.ForallMask = refl
+word-plain what.Workshare = refl
+word-plain what.DoLoop = refl
+word-plain (what.Allocmem also) = refl
+word-plain (what.Freemem also) = refl
+word-plain (what.Read also) = refl
+word-plain what.Yield = refl
+word-plain what.YieldElement = refl
+word-plain (what.Constant value) = refl
+word-plain (what.Unary op) = refl
+word-plain (what.Binary op) = refl
+word-plain what.Select = refl
+word-plain what.Load = refl
+word-plain what.Boxed = refl
+word-plain (what.Bound w dim) = refl
+word-plain what.Size = refl
+word-plain what.Allocated = refl
+word-plain (what.Designate subs) = refl
+word-plain what.Vector = refl
+word-plain what.AsExpr = refl
+word-plain what.Elemental = refl
+word-plain what.Apply = refl
+word-plain (what.Reduce r) = refl
+
+-- ---- reading a word: one that begins with another stands before it
+
+abbrev all_words : List What
+all_words =
+    what.Declare [] ∷ what.Assign false ∷ what.Masked ∷ what.Elsewhere ∷ what.ForallMask ∷ what.Forall [] ∷ what.Workshare ∷ what.DoLoop ∷
+    what.Allocmem false ∷ what.Freemem false ∷ what.Read false ∷ what.YieldElement ∷ what.Yield ∷ what.Constant (pos 0) ∷ what.Unary unary.Neg ∷
+    what.Unary unary.Abs ∷ what.Unary unary.Not ∷ what.Binary binary.Add ∷ what.Binary binary.Sub ∷ what.Binary binary.Mul ∷ what.Binary binary.Div ∷
+    what.Binary binary.Min ∷ what.Binary binary.Max ∷ what.Binary binary.Pow ∷ what.Binary binary.Modulo ∷ what.Binary binary.Mod ∷
+    what.Binary binary.Eq ∷ what.Binary binary.Ne ∷ what.Binary binary.Lt ∷ what.Binary binary.Le ∷ what.Binary binary.Gt ∷ what.Binary binary.Ge ∷
+    what.Binary binary.And ∷ what.Binary binary.Or ∷ what.Binary binary.Eqv ∷ what.Binary binary.Neqv ∷ what.Select ∷ what.Load ∷ what.Boxed ∷
+    what.Bound bound.Lower 0 ∷ what.Bound bound.Upper 0 ∷ what.Bound bound.Lbound 0 ∷ what.Bound bound.Ubound 0 ∷ what.Bound bound.Extent 0 ∷
+    what.Size ∷ what.Allocated ∷ what.Designate [] ∷ what.Vector ∷ what.AsExpr ∷ what.Elemental ∷ what.Apply ∷ what.Reduce reduction.Sum ∷
+    what.Reduce reduction.Product ∷ what.Reduce reduction.Minval ∷ what.Reduce reduction.Maxval ∷ what.Reduce reduction.Count ∷
+    what.Reduce reduction.Any ∷ what.Reduce reduction.All ∷ []
+
+abbrev begins_with : List ℕ → List ℕ → Bool
+begins_with [] s = true
+begins_with (c ∷ cs) [] = false
+begins_with (c ∷ cs) (d ∷ ds) = if c == d then begins_with cs ds else false
+
+abbrev first_of_these : List What → List ℕ → Option What
+first_of_these [] s = None
+first_of_these (w ∷ ws) s = if begins_with (word w) s then Some w else first_of_these ws s
+
+abbrev read : List ℕ → Option What
+read = first_of_these all_words
+
+-- A word ends where the line ends or a blank stands.
+abbrev Read : What → Type 0
+Read w = ((s : List ℕ) → read (word w ++ (10 ∷ s)) ≡ Some (plain w)) × ((s : List ℕ) → read (word w ++ (32 ∷ s)) ≡ Some (plain w))
+
+read-unary : (op : ValueUnary) → Read (what.Unary op)
+read-unary unary.Neg = ((λ s. refl), (λ s. refl))
+read-unary unary.Abs = ((λ s. refl), (λ s. refl))
+read-unary unary.Not = ((λ s. refl), (λ s. refl))
+
+read-binary : (op : ValueBinary) → Read (what.Binary op)
+read-binary binary.Add = ((λ s. refl), (λ s. refl))
+read-binary binary.Sub = ((λ s. refl), (λ s. refl))
+read-binary binary.Mul = ((λ s. refl), (λ s. refl))
+read-binary binary.Div = ((λ s. refl), (λ s. refl))
+read-binary binary.Min = ((λ s. refl), (λ s. refl))
+read-binary binary.Max = ((λ s. refl), (λ s. refl))
+read-binary binary.Pow = ((λ s. refl), (λ s. refl))
+read-binary binary.Mod = ((λ s. refl), (λ s. refl))
+read-binary binary.Modulo = ((λ s. refl), (λ s. refl))
+read-binary binary.Eq = ((λ s. refl), (λ s. refl))
+read-binary binary.Ne = ((λ s. refl), (λ s. refl))
+read-binary binary.Lt = ((λ s. refl), (λ s. refl))
+read-binary binary.Le = ((λ s. refl), (λ s. refl))
+read-binary binary.Gt = ((λ s. refl), (λ s. refl))
+read-binary binary.Ge = ((λ s. refl), (λ s. refl))
+read-binary binary.And = ((λ s. refl), (λ s. refl))
+read-binary binary.Or = ((λ s. refl), (λ s. refl))
+read-binary binary.Eqv = ((λ s. refl), (λ s. refl))
+read-binary binary.Neqv = ((λ s. refl), (λ s. refl))
+
+read-bound : (w : BoundWord) (dim : ℕ) → Read (what.Bound w dim)
+read-bound bound.Lower dim = ((λ s. refl), (λ s. refl))
+read-bound bound.Upper dim = ((λ s. refl), (λ s. refl))
+read-bound bound.Lbound dim = ((λ s. refl), (λ s. refl))
+read-bound bound.Ubound dim = ((λ s. refl), (λ s. refl))
+read-bound bound.Extent dim = ((λ s. refl), (λ s. refl))
+
+read-reduce : (r : Reduction) → Read (what.Reduce r)
+read-reduce reduction.Sum = ((λ s. refl), (λ s. refl))
+read-reduce reduction.Product = ((λ s. refl), (λ s. refl))
+read-reduce reduction.Minval = ((λ s. refl), (λ s. refl))
+read-reduce reduction.Maxval = ((λ s. refl), (λ s. refl))
+read-reduce reduction.Count = ((λ s. refl), (λ s. refl))
+read-reduce reduction.Any = ((λ s. refl), (λ s. refl))
+read-reduce reduction.All = ((λ s. refl), (λ s. refl))
+
+read-word : (w : What) → Read w
+read-word (what.Declare name) = ((λ s. refl), (λ s. refl))
+read-word (what.Assign realloc) = ((λ s. refl), (λ s. refl))
+read-word what.Masked = ((λ s. refl), (λ s. refl))
+read-word what.Elsewhere = ((λ s. refl), (λ s. refl))
+read-word (what.Forall names) = ((λ s. refl), (λ s. refl))
+read-word what.ForallMask = ((λ s. refl), (λ s. refl))
+read-word what.Workshare = ((λ s. refl), (λ s. refl))
+read-word what.DoLoop = ((λ s. refl), (λ s. refl))
+read-word (what.Allocmem also) = ((λ s. refl), (λ s. refl))
+read-word (what.Freemem also) = ((λ s. refl), (λ s. refl))
+read-word (what.Read also) = ((λ s. refl), (λ s. refl))
+read-word what.Yield = ((λ s. refl), (λ s. refl))
+read-word what.YieldElement = ((λ s. refl), (λ s. refl))
+read-word (what.Constant value) = ((λ s. refl), (λ s. refl))
+read-word (what.Unary op) = read-unary op
+read-word (what.Binary op) = read-binary op
+read-word what.Select = ((λ s. refl), (λ s. refl))
+read-word what.Load = ((λ s. refl), (λ s. refl))
+read-word what.Boxed = ((λ s. refl), (λ s. refl))
+read-word (what.Bound w dim) = read-bound w dim
+read-word what.Size = ((λ s. refl), (λ s. refl))
+read-word what.Allocated = ((λ s. refl), (λ s. refl))
+read-word (what.Designate subs) = ((λ s. refl), (λ s. refl))
+read-word what.Vector = ((λ s. refl), (λ s. refl))
+read-word what.AsExpr = ((λ s. refl), (λ s. refl))
+read-word what.Elemental = ((λ s. refl), (λ s. refl))
+read-word what.Apply = ((λ s. refl), (λ s. refl))
+read-word (what.Reduce r) = read-reduce r
+
+-- ---- words
+
+pub data Spaced : List ℕ → Type 0 where
+  at_line : {t : List ℕ} (s : List ℕ) → t ≡ 10 ∷ s → Spaced t
+  at_blank : {t : List ℕ} (s : List ℕ) → t ≡ 32 ∷ s → Spaced t
+
+read-spaced : (w : What) (s : List ℕ) → Spaced s → read (word w ++ s) ≡ Some (plain w)
+read-spaced w s (at_line r e) = ap (λ t. read (word w ++ t)) e ∙ (read-word w).0 r
+read-spaced w s (at_blank r e) = ap (λ t. read (word w ++ t)) e ∙ (read-word w).1 r
+
+same_plain : (v w : What) → plain v ≡ plain w → w ≡ holding (held w) v
+same_plain v w h = sym (holding-own w) ∙ (sym (holding-plain (held w) w) ∙ (ap (holding (held w)) (sym h) ∙ holding-plain (held w) v))
+
+some_same : (v w : What) → Some v ≡ Some w → v ≡ w
+some_same v w h = cc
+
+pub same_word : (v w : What) (s t : List ℕ) → Spaced s → Spaced t → word v ++ s ≡ word w ++ t → (w ≡ holding (held w) v) × (s ≡ t)
+same_word v w s t p q h =
+    let read_both : Some (plain v) ≡ Some (plain w) = sym (read-spaced v s p) ∙ (ap read h ∙ read-spaced w t q) in
+    let plains : plain v ≡ plain w = some_same (plain v) (plain w) read_both in
+    let words : word v ≡ word w = sym (word-plain v) ∙ (ap word plains ∙ word-plain w) in
+    (same_plain v w plains, append_cancel_left (word v) s t (h ∙ ap (λ x. x ++ t) (sym words)))
