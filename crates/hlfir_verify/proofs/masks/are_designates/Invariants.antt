@@ -1,0 +1,8 @@
+use Rattle.std.proofs.Common.{◌≡◌, drop}
+use Rattle.std.specs.List.{list_all}
+use Rattle.hlfir_ops.specs.RulesValues.{is_designate, value_at}
+use Rattle.rule_tests.specs.Seen.{seen}
+use Rattle.hlfir_verify.proofs.masks.are_designates.Given as goal
+
+abbrev pub invariant-each : goal.invariant-each
+invariant-each l = list_all (λ v. is_designate (value_at (seen l.table) v)) (drop l.v-index l.vs) ≡ list_all (λ v. is_designate (value_at (seen l.table) v)) l.vs

@@ -1,0 +1,27 @@
+//! Whether a module keeps the rules of its ops: those on statements, and the walk that joins all. Read `specs/Rules.antt` of `hlfir_ops`
+//! first.
+#![tactic(auto)]
+
+mod around;
+mod broken;
+mod check;
+mod defined;
+mod ending;
+mod going;
+mod keeping;
+mod laws;
+mod limits;
+mod lists;
+mod look;
+mod masks;
+mod order;
+mod statements;
+mod tally;
+#[cfg(test)]
+mod tests;
+mod walk;
+
+pub use check::verify;
+pub use ending::{Rule, VerifyEnd};
+pub use keeping::Verified;
+pub use laws::{each_module_has_one_answer, ops_are_judged_in_printed_order};
