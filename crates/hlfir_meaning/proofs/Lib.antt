@@ -1,0 +1,2 @@
+mod Compute
+pub mod Walks
