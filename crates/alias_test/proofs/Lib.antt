@@ -1,0 +1,17 @@
+pub mod Alike
+pub mod Apart
+pub mod Dimensions
+pub mod Giving
+pub mod Lasts
+pub mod Meets
+mod NormalRows
+pub mod Numbers
+pub mod Ranges
+pub mod Reaching
+mod RelationRows
+pub mod Selecting
+pub mod Sited
+pub mod Strided
+pub mod Valued
+pub mod Walking
+pub mod Whole

@@ -1,0 +1,10 @@
+pub mod Harms
+pub mod Items
+pub mod Looks
+pub mod Parts
+pub mod Reads
+pub mod Saved
+pub mod Seen
+pub mod Steps
+pub mod Targets
+pub mod Wanted
