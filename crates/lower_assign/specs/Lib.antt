@@ -1,0 +1,10 @@
+pub mod Scopes
+pub mod Lowerings
+pub mod Operations
+pub mod References
+pub mod Values
+pub mod Statements
+pub mod Folding
+pub mod Known
+pub mod Lists
+pub mod Opened

@@ -1,0 +1,4 @@
+pub mod Modules
+pub mod Lists
+pub mod Filled
+pub mod Opened
