@@ -3,21 +3,19 @@ use Rattle.std.specs.Prelude.{◌≡◌, ◌⊎◌, ◌<◌, ◌≤◌, ⊤, ℕ
 use Rattle.ws_io.specs.Causes.{Rose}
 use Rattle.ws_io.specs.declared.whole.ReadEnd.{ReadEnd}
 use Rattle.ws_io.specs.declared.whole.ReadEnd.TheVariants as read
+use Rattle.ws_driver.specs.declared.answer.Answer.{Answer}
+use Rattle.ws_driver.specs.declared.answer.Status.TheVariants as statuses
 use Rattle.ws_driver.specs.declared.reading.TheConstants.{SOURCE_LIMIT, DATA_LIMIT}
-use Rattle.ws_driver.specs.Request.{Asked, requested}
+use Rattle.ws_driver.specs.Request.{Asked, data_of}
 use Rattle.ws_driver.specs.Sources.{IsAccepted}
 
 -- the data, and the most bytes that it may have
 abbrev pub ReadsInput : Option (List ℕ) → List ℕ → ℕ → Type 0
 ReadsInput input name limit = (input ≡ Some name) × (limit ≡ DATA_LIMIT)
 
--- a file that is read, and the most bytes that it may have: the source, and the data where the source is accepted
-abbrev pub ReadsOf : (List ℕ → Option (List ℕ)) → Asked → List ℕ → ℕ → Type 0
-ReadsOf told r name limit = ((r.source ≡ name) × (limit ≡ SOURCE_LIMIT)) ⊎ (ReadsInput r.input name limit × IfSome (told r.source) IsAccepted)
-
--- the same of the words, which then are a request
-abbrev pub Reads : (List ℕ → Option (List ℕ)) → List (List ℕ) → List ℕ → ℕ → Type 0
-Reads told words name limit = (r : Asked) × (requested words ≡ Some r) × ReadsOf told r name limit
+-- a file that is read, and the most bytes that it may have: the source, and the data of a run where the source is accepted
+abbrev pub Reads : (List ℕ → Option (List ℕ)) → Asked → List ℕ → ℕ → Type 0
+Reads told r name limit = ((r.source ≡ name) × (limit ≡ SOURCE_LIMIT)) ⊎ (ReadsInput (data_of r) name limit × IfSome (told r.source) IsAccepted)
 
 -- ---- of the files that are read
 
@@ -38,8 +36,15 @@ pub record IsCalm (told : List ℕ → Option (List ℕ)) (before now : List ℕ
 abbrev pub AllWithin : (List ℕ → Option (List ℕ)) → (List ℕ → ℕ → Type 0) → Type 0
 AllWithin told reads = (name : List ℕ) (limit : ℕ) → reads name limit → IfSome (told name) (λ file. length file ≤ limit)
 
--- why one was not read whole
+-- ---- why one was not read whole
+
 abbrev pub IsUnread : (List ℕ → Option (List ℕ)) → (List ℕ → ℕ) → (List ℕ → ℕ) → (List ℕ → ℕ → Type 0) → ReadEnd → Type 0
 IsUnread told before now reads read.Failed = SomeRose before now reads
 IsUnread told before now reads read.TooLong = SomeTooLong told reads
 IsUnread told before now reads read.Memory = ⊤
+
+-- the answer then
+abbrev pub unread_answer : ReadEnd → Answer
+unread_answer read.Failed = record { status = statuses.ReadFault; regions = 0 }
+unread_answer read.TooLong = record { status = statuses.TooLong; regions = 0 }
+unread_answer read.Memory = record { status = statuses.Memory; regions = 0 }

@@ -3,9 +3,11 @@
 ghost use Rattle.std.specs.Prelude.{◌≡◌, IfOk};
 ghost use Rattle.list_io.specs.ReportText.{report_text};
 ghost use Rattle.ws_driver.specs.Texts.{refusal_text};
-ghost use Rattle.ws_driver.specs.Answers.{answer_of, refusal_answer, meaning};
+ghost use Rattle.ws_driver.specs.Answers.{refusal_answer, meaning, end_answer, answer_to, text_of};
 
 use crate::answer::{Answer, Status};
+use crate::request::Emit;
+use crate::texts::{module_lines, schedule_lines};
 use itoa::Buffer;
 use list_io::report;
 use slow_eval::evaluate;
@@ -39,8 +41,8 @@ pub fn refused(alloc: Global, refusal: Refusal) -> Result<(Answer, Vec<u8>), All
 }
 
 /// The end of a run as an answer.
-fn answer_of(ended: &Ended) -> Answer
-    ensures { result ≡ answer_of ended.now }
+fn end_answer(ended: &Ended) -> Answer
+    ensures { result ≡ end_answer ended.now }
 {
     match ended {
         Ended::Done(state) => Answer {
@@ -55,14 +57,33 @@ fn answer_of(ended: &Ended) -> Answer
 }
 
 /// How the run of an accepted source over its data ends, and the report of that.
-pub fn evaluated(
-    alloc: Global,
-    source: &Checked,
-    input: &[u8],
-) -> Result<(Answer, Vec<u8>), AllocError>
-    ensures { IfOk result (λ r. (r.0 ≡ answer_of (meaning source.now input.now)) × (r.1.items ≡ report_text (meaning source.now input.now))) }
+fn evaluated(alloc: Global, source: &Checked, input: &[u8]) -> Result<(Answer, Vec<u8>), AllocError>
+    ensures { IfOk result (λ r. (r.0 ≡ end_answer (meaning source.now input.now)) × (r.1.items ≡ report_text (meaning source.now input.now))) }
 {
     let ended = evaluate(alloc, source, input)?;
     let text = report(alloc, &ended)?;
-    Ok((answer_of(&ended), text))
+    Ok((end_answer(&ended), text))
+}
+
+/// The answer of a translation.
+const TRANSLATED: Answer = Answer {
+    status: Status::Done,
+    regions: 0,
+};
+
+/// The answer to an accepted source and its data, and the text that is asked for.
+#[tactic(auto, unfolding(crate::specs::Answers::text_of))]
+pub fn answer_to(
+    alloc: Global,
+    emit: Emit,
+    source: &Checked,
+    input: &[u8],
+) -> Result<(Answer, Vec<u8>), AllocError>
+    ensures { IfOk result (λ r. (r.0 ≡ answer_to emit source.now input.now) × (r.1.items ≡ text_of emit source.now input.now)) }
+{
+    match emit {
+        Emit::Run => evaluated(alloc, source, input),
+        Emit::Hlfir => Ok((TRANSLATED, module_lines(alloc, source)?)),
+        Emit::Schedule => Ok((TRANSLATED, schedule_lines(alloc, source)?)),
+    }
 }

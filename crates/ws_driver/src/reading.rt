@@ -2,13 +2,13 @@
 
 ghost use Rattle.std.specs.Prelude.{◌≡◌, ◌≤◌, vec_len, IfOk, IfErr, IfSome};
 ghost use Rattle.std.specs.Option.{option_copied};
-ghost use Rattle.ws_driver.specs.Request.{asked, input_told};
-ghost use Rattle.ws_driver.specs.Causes.{ReadsInput, ReadsOf, IsUnread};
-ghost use Rattle.ws_driver.specs.Answered.{IsRunOf, IsAnswered};
+ghost use Rattle.ws_driver.specs.Request.{asked, data_of, input_told};
+ghost use Rattle.ws_driver.specs.Causes.{ReadsInput, Reads, IsUnread};
+ghost use Rattle.ws_driver.specs.Answers.{IsGiven, IsAnswerOf};
 
 use crate::answer::Answer;
 use crate::front::accepted;
-use crate::outcome::{evaluated, refused};
+use crate::outcome::{answer_to, refused};
 use crate::request::Request;
 use crate::source::SourceEnd;
 use std::alloc::Global;
@@ -21,7 +21,7 @@ pub const SOURCE_LIMIT: u64 = 1_048_576;
 /// The most bytes of the data.
 pub const DATA_LIMIT: u64 = 16_777_216;
 
-/// The data of a request; nothing where none is named.
+/// The data; nothing where no file is read.
 fn read_input<F: Files>(
     alloc: Global,
     files: &mut F,
@@ -38,17 +38,17 @@ fn read_input<F: Files>(
 }
 
 /// The answer to an accepted source.
-fn run<F: Files>(
+fn given<F: Files>(
     alloc: Global,
     files: &mut F,
     source: &Checked,
-    input: Option<&str>,
+    request: Request<'_>,
 ) -> Result<(Answer, Vec<u8>), ReadEnd>
-    ensures answer { IfOk result (λ r. IsRunOf source.now (input_told (F.told files.old) (option_copied input.entry)) r.0 r.1.items) }
-    ensures unread { IfErr result (IsUnread (F.told files.old) (F.faults files.old) (F.faults files.new) (ReadsInput (option_copied input.entry))) }
+    ensures answer { IfOk result (λ r. IsGiven request.entry.emit source.now (input_told (F.told files.old) (data_of (asked request.entry))) r.0 r.1.items) }
+    ensures unread { IfErr result (IsUnread (F.told files.old) (F.faults files.old) (F.faults files.new) (ReadsInput (data_of (asked request.entry)))) }
 {
-    let input = read_input(alloc, files, input)?;
-    match evaluated(alloc, source, input.as_slice()) {
+    let input = read_input(alloc, files, request.data_name())?;
+    match answer_to(alloc, request.emit, source, input.as_slice()) {
         Ok(answer) => Ok(answer),
         Err(_) => Err(ReadEnd::Memory),
     }
@@ -60,15 +60,15 @@ pub fn answered<F: Files>(
     files: &mut F,
     request: Request<'_>,
 ) -> Result<(Answer, Vec<u8>), ReadEnd>
-    ensures answer { IfOk result (λ r. IsAnswered (F.told files.old request.entry.source.now) (input_told (F.told files.old) (asked request.entry).input) r.0 r.1.items) }
-    ensures unread { IfErr result (IsUnread (F.told files.old) (F.faults files.old) (F.faults files.new) (ReadsOf (F.told files.old) (asked request.entry))) }
+    ensures answer { IfOk result (λ r. IsAnswerOf (F.told files.old) (asked request.entry) r.0 r.1.items) }
+    ensures unread { IfErr result (IsUnread (F.told files.old) (F.faults files.old) (F.faults files.new) (Reads (F.told files.old) (asked request.entry))) }
 {
     let source = match read_whole(alloc, files, request.source, SOURCE_LIMIT) {
         Ok(source) => source,
         Err(end) => return Err(end),
     };
     match accepted(alloc, source.as_slice()) {
-        Ok(checked) => run(alloc, files, &checked, request.input),
+        Ok(checked) => given(alloc, files, &checked, request),
         Err(SourceEnd::Refused(refusal)) => match refused(alloc, refusal) {
             Ok(answer) => Ok(answer),
             Err(_) => Err(ReadEnd::Memory),

@@ -1,26 +1,25 @@
-use Rattle.std.proofs.Common.{refl, inl, inr, subst, List, ℕ, Result, Vec, Global}
+use Rattle.std.proofs.Common.{refl, inl, inr, subst, ℕ, Result, Vec, Global}
 use Rattle.std.specs.Prelude.{IfErr}
-use Rattle.std.specs.Option.{option_copied}
 use Rattle.ws_io.specs.declared.whole.ReadEnd.{ReadEnd}
 use Rattle.ws_driver.specs.declared.reading.TheConstants.{SOURCE_LIMIT}
-use Rattle.ws_driver.specs.Request.{asked}
+use Rattle.ws_driver.specs.Request.{asked, data_of}
 use Rattle.ws_driver.specs.Sources.{IsSource, IsAccepted}
-use Rattle.ws_driver.specs.Causes.{ReadsInput, ReadsOf, IsUnread}
+use Rattle.ws_driver.specs.Causes.{ReadsInput, Reads, IsUnread}
 use Rattle.ws_driver.proofs.Told.{told_one}
 use Rattle.ws_driver.proofs.Failing.{unread_result, unread_later}
 use Rattle.ws_driver.proofs.reading.answered.Goals as goal
 
 pub returns-in-Err-clause-unread : goal.returns-in-Err-clause-unread
 returns-in-Err-clause-unread g c =
-    let P : Result (Vec ℕ Global) ReadEnd → Type 0 = λ r. IfErr r (IsUnread (g.F.Files.told c.args.files.now) (g.F.Files.faults c.args.files.now) (g.F.Files.faults c.read_whole.new.files) (ReadsOf (g.F.Files.told c.args.files.now) (asked c.args.request))) in
+    let P : Result (Vec ℕ Global) ReadEnd → Type 0 = λ r. IfErr r (IsUnread (g.F.Files.told c.args.files.now) (g.F.Files.faults c.args.files.now) (g.F.Files.faults c.read_whole.new.files) (Reads (g.F.Files.told c.args.files.now) (asked c.args.request))) in
     subst P c.in-Err.is
-    (unread_result (g.F.Files.told c.args.files.now) (g.F.Files.faults c.args.files.now) (g.F.Files.faults c.read_whole.new.files) (ReadsOf (g.F.Files.told c.args.files.now) (asked c.args.request)) c.args.request.source.now SOURCE_LIMIT c.read_whole.result
+    (unread_result (g.F.Files.told c.args.files.now) (g.F.Files.faults c.args.files.now) (g.F.Files.faults c.read_whole.new.files) (Reads (g.F.Files.told c.args.files.now) (asked c.args.request)) c.args.request.source.now SOURCE_LIMIT c.read_whole.result
     (inl (refl, refl)) c.read_whole.ensures.too_long c.read_whole.ensures.failed)
 
 pub returns-in-Ok-accepted-clause-unread : goal.returns-in-Ok-accepted-clause-unread
 returns-in-Ok-accepted-clause-unread g c =
-    unread_later (g.F.Files.told c.args.files.now) (g.F.Files.told c.read_whole.new.files) (g.F.Files.faults c.args.files.now) (g.F.Files.faults c.read_whole.new.files) (g.F.Files.faults c.run.new.files)
-    (ReadsInput (option_copied c.args.request.input)) (ReadsOf (g.F.Files.told c.args.files.now) (asked c.args.request)) c.run.result
+    unread_later (g.F.Files.told c.args.files.now) (g.F.Files.told c.read_whole.new.files) (g.F.Files.faults c.args.files.now) (g.F.Files.faults c.read_whole.new.files) (g.F.Files.faults c.given.new.files)
+    (ReadsInput (data_of (asked c.args.request))) (Reads (g.F.Files.told c.args.files.now) (asked c.args.request)) c.given.result
     c.read_whole.ensures.kept c.read_whole.ensures.later
     (λ name limit reads. inr (reads, told_one (g.F.Files.told c.args.files.now c.args.request.source.now) c.in-Ok.source.items IsAccepted c.in-Ok.ensures.whole (c.in-Ok-accepted.checked, subst (λ b. IsSource b c.in-Ok-accepted.checked) c.as_slice.ensures.value c.in-Ok-accepted.ensures.tree)))
-    c.run.ensures.unread
+    c.given.ensures.unread

@@ -1,0 +1,3 @@
+integer :: k, n
+k = max(n, 1, k)
+end

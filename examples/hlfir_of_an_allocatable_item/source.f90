@@ -1,0 +1,4 @@
+integer, allocatable :: p(:)
+allocate (p(1:2))
+read *, p
+end

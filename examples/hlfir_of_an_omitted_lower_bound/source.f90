@@ -1,0 +1,5 @@
+integer, allocatable :: p(:)
+integer :: n
+n = 2
+allocate (p(n))
+end
