@@ -1,0 +1,13 @@
+pub mod Bodies
+pub mod Calls
+pub mod Constructors
+pub mod Elementals
+pub mod Evaluated
+pub mod Moved
+pub mod Names
+pub mod Operations
+pub mod Ops
+pub mod Ordered
+pub mod Scalars
+pub mod Walking
+pub mod Wholes

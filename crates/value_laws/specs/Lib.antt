@@ -1,0 +1,4 @@
+pub mod Singles
+pub mod Standing
+pub mod Variables
+pub mod Laws
