@@ -1,8 +1,6 @@
-//! Lowering of whole sources. Read `specs/Modules.antt` first.
+//! The module of a source, as one that keeps the rules of its ops. `lower_constructs` defines it.
 #![tactic(auto)]
 
-mod constructs;
-mod headers;
-mod sources;
+mod lower;
 
-pub use sources::{lower, lowered};
+pub use lower::lower;

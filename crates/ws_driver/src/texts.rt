@@ -1,7 +1,7 @@
 //! The texts of a translation.
 
 ghost use Rattle.std.specs.Prelude.{◌≡◌, IfOk};
-ghost use Rattle.lower_masks.specs.Modules.{lowered};
+ghost use Rattle.lower_constructs.specs.Modules.{lowered};
 ghost use Rattle.hlfir_text.specs.ModuleText.{module_text};
 ghost use Rattle.assign_schedule.specs.Saved.{saved};
 ghost use Rattle.plan_text.specs.ScheduleText.{schedule_text};

@@ -1,7 +1,0 @@
-use Rattle.lower_assign.specs.Lowerings.{in_turn}
-use Rattle.lower_assign.proofs.Turns.{LowersAll}
-use Rattle.lower_masks.specs.Modules.{declaration}
-use Rattle.lower_masks.proofs.sources.declarations.Given as goal
-
-abbrev pub invariant-each : goal.invariant-each
-invariant-each l = LowersAll l.names (in_turn declaration) l.fn.names.variables l.variable-index l.initial.build l.build

@@ -1,4 +1,0 @@
-pub mod Modules
-pub mod Lists
-pub mod Filled
-pub mod Opened
