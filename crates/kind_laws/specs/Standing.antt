@@ -1,5 +1,5 @@
 -- What the names of a table of declarations stand for where a part of the source is lowered.
-use Rattle.std.specs.Prelude.{◌≡◌, ◌<◌, ℕ, Bool, true, false, List, Option, Some, None, ℤ}
+use Rattle.std.specs.Prelude.{◌≡◌, ◌<◌, Bool, true, false, List, Option, Some, None, ℤ}
 use Rattle.ws_types.specs.declared.constant.Constancy.TheVariants.{Value, NotConstant}
 use Rattle.ws_types.specs.declared.types.Entry.{Entry}
 use Rattle.ws_types.specs.declared.types.Row.{Row}
