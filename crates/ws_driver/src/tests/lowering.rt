@@ -1,0 +1,90 @@
+//! Parts of a source, lowered by themselves at the place of a builder.
+
+use crate::front::accepted;
+use hlfir_ops::{Builder, Elem, ValueKind, What};
+use hlfir_text::print;
+use lower_assign::{give, lower_left, lower_plain, lower_value};
+use sqlite_items::Items;
+use std::alloc::Global;
+use std::test::Fail;
+use ws_base::Name;
+use ws_sema::Checked;
+use ws_space::{Dim, Shape};
+use ws_tree::Body;
+
+const COUNT: &[u8] = b"integer :: a(3), k\na(k) = k + 1\nend\n";
+
+const PARTS: &[u8] = b"module main
+%0 = hlfir.declare \"a\" : ref<1:3xi32>
+%1 = hlfir.declare \"k\" : ref<i32>
+%2 = hlfir.load %1 : i32
+%3 = arith.constant 1 : i32
+%4 = arith.addi %2, %3 : i32
+%5 = hlfir.load %1 : i32
+%6 = hlfir.designate %0 (%5) : ref<i32>
+hlfir.region_assign @2 {
+  %7 = hlfir.load %1 : i32
+  %8 = arith.constant 1 : i32
+  %9 = arith.addi %7, %8 : i32
+  hlfir.yield %9
+} to {
+  %10 = hlfir.load %1 : i32
+  %11 = hlfir.designate %0 (%10) : ref<i32>
+  hlfir.yield %11
+}
+";
+
+fn line_of(extent: u64) -> Shape {
+    let unused = Dim {
+        lower: 1,
+        extent: 1,
+    };
+    Shape {
+        rank: 1,
+        d1: Dim { lower: 1, extent },
+        d2: unused,
+        d3: unused,
+    }
+}
+
+fn source(alloc: Global) -> Result<Checked, Fail> {
+    match accepted(alloc, COUNT) {
+        Ok(source) => Ok(source),
+        Err(_) => Err(Fail::from("the source is refused")),
+    }
+}
+
+#[test]
+fn a_value_a_left_side_and_a_statement(rt: HostRuntime) -> Result<(), Fail> {
+    let alloc = rt.alloc();
+    let source = source(alloc)?;
+    let Some(statement) = source.tree().body.as_slice().first() else {
+        return Err(Fail::from("no statement"));
+    };
+    let mut build = Builder::new(alloc, Name::from_str(alloc, "main")?);
+    give(
+        alloc,
+        &mut build,
+        What::Declare(Name::from_str(alloc, "a")?),
+        Items::new(alloc),
+        ValueKind::Declared {
+            elem: Elem::I32,
+            shape: line_of(3),
+        },
+    )?;
+    give(
+        alloc,
+        &mut build,
+        What::Declare(Name::from_str(alloc, "k")?),
+        Items::new(alloc),
+        ValueKind::Place(Elem::I32),
+    )?;
+    if let Body::Assign { left, right } = &statement.body {
+        assert_eq!(rt; lower_value(alloc, &mut build, &source, right)?.number, 4);
+        assert_eq!(rt; lower_left(alloc, &mut build, &source, left)?.number, 6);
+    }
+    lower_plain(alloc, &mut build, &source, statement)?;
+    let text = print(alloc, &build.finish())?;
+    assert_eq!(rt; text.as_slice(), PARTS);
+    Ok(())
+}
