@@ -1,5 +1,5 @@
 -- A designator has a form for each dimension of its variable.
-use Rattle.std.proofs.Common.{◌≡◌, refl, sym, ap, ◌∙◌, subst, ℕ, zero, suc, ◌≤◌, Bool, true, ◌&&◌, ◌==◌, List, [], ◌∷◌, length, Option, Some, None, Result, Ok, Err, ℤ, arith, eqb-true, leb-true}
+use Rattle.std.proofs.Common.{◌≡◌, refl, sym, ap, ◌∙◌, subst, ℕ, zero, suc, ◌<◌, ◌≤◌, Bool, true, ◌&&◌, ◌==◌, List, [], ◌∷◌, length, Option, Some, None, Result, Ok, Err, ℤ, arith, eqb-true, leb-true}
 use Rattle.std.specs.Prelude.{slice_get, nat_lt, nat_le, IfOk}
 use Rattle.std.specs.List.{list_all, AllZip}
 use Rattle.std.proofs.lemmas.Bool.{and_parts}
@@ -28,9 +28,10 @@ use Rattle.hlfir_ops.specs.RulesLimits.{is_small, is_small_shape, declares_in, d
 use Rattle.hlfir_ops.specs.RulesPlaces.{Place}
 use Rattle.hlfir_ops.specs.Rules.{Facts, facts_of, kept, operands_fit, result_fits, own_limits, counts_fit, limits_fit, KeepsRules}
 use Rattle.alias_test.specs.declared.designator.Designator.{Designator}
-use Rattle.alias_test.specs.Givers.{kind_given, under_box, variable_given, variable_of, givers_of}
+use Rattle.alias_test.specs.Givers.{kind_given, held_by, held_given, held_at, variable_of, givers_of}
 use Rattle.alias_test.specs.Normal.{forms_of, declared_forms, kept_forms, whole_form, whole_forms, designator_by, designator_given, designator_at}
 use Rattle.alias_test.specs.Laws.{IsDesignator, HasDimensions, EachHasItsDimensions}
+use Rattle.alias_test.proofs.Boxes.{held_first, held_at-earlier, variable_of-box, variable_of-itself}
 use Rattle.alias_test.proofs.Numbers.{never}
 use Rattle.alias_test.proofs.Sited.{Each, IsJudged, each_at, givers_judged}
 use Rattle.alias_test.proofs.Valued.{GivenBy, giver_of_target, values_zip}
@@ -163,21 +164,42 @@ module _ (f : Facts) (gs : List Op) (zip : AllZip GivenBy f.values gs) (judged :
   kind_is : (v : ValueId) → is_target (kind_at f.values v) ≡ true → kind_given (slice_get gs v.number) ≡ kind_at f.values v
   kind_is v h = let g = giver_of_target f.values gs v.number zip h in ap kind_given g.1 ∙ g.2
 
-  box_rank : (e : Bool) (os : List ValueId) (k : Option ValueKind) (rs : List Region) (n : ℕ) → takes e f.values what.Boxed os rs ≡ true → gives f.values what.Boxed os k rs ≡ true → rank_at (under_box what.Boxed os n) ≡ rank_of_kind k
-  box_rank e [] k rs n t g = never t
-  box_rank e (p ∷ []) k rs n t g = ap rank_of_kind (kind_is p (allocatable_target (kind_at f.values p) t)) ∙ sym (boxed_rank (kind_at f.values p) k g)
-  box_rank e (p ∷ q ∷ more) k rs n t g = never t
+  -- What a box holds is a reference of its rank.
+  held_rank : (e : Bool) (n : ℕ) (w : What) (os : List ValueId) (k : Option ValueKind) (rs : List Region) (p : ValueId) → held_by w os n ≡ Some p → takes e f.values w os rs ≡ true → gives f.values w os k rs ≡ true →
+      (is_target (kind_at f.values p) ≡ true) × (rank_of_kind (kind_at f.values p) ≡ rank_of_kind k)
+  held_rank e n what.Boxed [] k rs p held t g = never t
+  held_rank e n what.Boxed (q ∷ []) k rs p held t g =
+      let same : q ≡ p = (held_first n q [] p held).1 in
+      (subst (λ (x : ValueId). is_target (kind_at f.values x) ≡ true) same (allocatable_target (kind_at f.values q) t), ap (λ (x : ValueId). rank_of_kind (kind_at f.values x)) (sym same) ∙ sym (boxed_rank (kind_at f.values q) k g))
+  held_rank e n what.Boxed (q ∷ r ∷ more) k rs p held t g = never t
+  held_rank e n w os k rs p held t g = cc
 
-  -- what is under a box has its rank
-  rank_by : (n : ℕ) (w : What) (os : List ValueId) (k : Option ValueKind) → Fits f.values w os k → kind_given (slice_get gs n) ≡ k → rank_at (under_box w os n) ≡ rank_of_kind k
-  rank_by n what.Boxed os k fit same = box_rank fit.elemental os k fit.regions n fit.takes_form fit.gives_form
-  rank_by n w os k fit same = ap rank_of_kind same
+  fits_at : (v : ValueId) (op : Op) → slice_get gs v.number ≡ Some op → Fits f.values (out-Op op).what (out-Op op).operands (out-Op op).kind
+  fits_at v op at = fits f op (each_at (IsJudged f) gs v.number op judged at)
 
-  rank_under : (v : ValueId) → is_target (kind_at f.values v) ≡ true → rank_at (variable_of gs v.number) ≡ rank_of_kind (kind_at f.values v)
-  rank_under v h =
+  held_at_rank : (v p : ValueId) → is_target (kind_at f.values v) ≡ true → held_at gs v.number ≡ Some p → (is_target (kind_at f.values p) ≡ true) × (rank_of_kind (kind_at f.values p) ≡ rank_of_kind (kind_at f.values v))
+  held_at_rank v p h held =
       let g = giver_of_target f.values gs v.number zip h in
-      let fit = fits f g.0 (each_at (IsJudged f) gs v.number g.0 judged g.1) in
-      ap (λ o. rank_at (variable_given o v.number)) g.1 ∙ (rank_by v.number (out-Op g.0).what (out-Op g.0).operands (out-Op g.0).kind fit (ap kind_given g.1) ∙ ap rank_of_kind g.2)
+      let fit = fits_at v g.0 g.1 in
+      let under = held_rank fit.elemental v.number (out-Op g.0).what (out-Op g.0).operands (out-Op g.0).kind fit.regions p (ap (λ o. held_given o v.number) (sym g.1) ∙ held) fit.takes_form fit.gives_form in
+      (under.0, under.1 ∙ ap rank_of_kind g.2)
+
+  abbrev HasRank : ValueId → Type 0
+  HasRank v = is_target (kind_at f.values v) ≡ true → rank_at (variable_of gs v.number) ≡ rank_of_kind (kind_at f.values v)
+
+  rank_held : (v : ValueId) (o : Option ValueId) → ((p : ValueId) → p.number < v.number → HasRank p) → held_at gs v.number ≡ o → HasRank v
+  rank_held v (Some p) earlier held h =
+      let under = held_at_rank v p h held in
+      ap rank_at (variable_of-box gs v.number p held) ∙ (earlier p (held_at-earlier gs v.number p held) under.0 ∙ under.1)
+  rank_held v None earlier held h = ap rank_at (variable_of-itself gs v.number held) ∙ ap rank_of_kind (kind_is v h)
+
+  rank_below : (bound : ℕ) (v : ValueId) → v.number < bound → HasRank v
+  rank_below zero v below = absurd (omega arith)
+  rank_below (suc bound) v below = rank_held v (held_at gs v.number) (λ p earlier. rank_below bound p (omega arith)) refl
+
+  -- The variable under boxes has their rank.
+  rank_under : (v : ValueId) → is_target (kind_at f.values v) ≡ true → rank_at (variable_of gs v.number) ≡ rank_of_kind (kind_at f.values v)
+  rank_under v h = rank_below (suc v.number) v (omega arith) h
 
   of_designate : (e : Bool) (n : ℕ) (subs : List SubKind) (os : List ValueId) (k : Option ValueKind) (rs : List Region) → takes e f.values (what.Designate subs) os rs ≡ true →
       length (designator_by gs n (what.Designate subs) os k).forms ≡ rank_at (designator_by gs n (what.Designate subs) os k).var
@@ -187,34 +209,31 @@ module _ (f : Facts) (gs : List Op) (zip : AllZip GivenBy f.values gs) (judged :
       let base = and_parts (is_reference (kind_at f.values r)) (has_rank (length subs) (kind_at f.values r)) parts.0 in
       length-forms_of gs f.values subs more parts.1 ∙ sym (rank_under r (reference_target (kind_at f.values r) base.0) ∙ rank_is (length subs) (kind_at f.values r) base.1)
 
-  of_op : (n : ℕ) (w : What) (os : List ValueId) (k : Option ValueKind) → Fits f.values w os k → is_target k ≡ true → kind_given (slice_get gs n) ≡ k → variable_of gs n ≡ under_box w os n → length (designator_by gs n w os k).forms ≡ rank_at (designator_by gs n w os k).var
-  of_op n (what.Declare name) os k fit t hk hv =
-      length-whole_forms (variable_of gs n) k fit.gives_form (and_parts (nat_lt (declares_in fit.before) declare_limit) (is_small k) fit.limits).1 ∙ sym (ap rank_at hv ∙ rank_by n (what.Declare name) os k fit hk)
-  of_op n what.Boxed os k fit t hk hv = boxed_forms (first_kind f.values os) k (variable_of gs n) fit.gives_form ∙ sym (ap rank_at hv ∙ rank_by n what.Boxed os k fit hk)
-  of_op n (what.Designate subs) os k fit t hk hv = of_designate fit.elemental n subs os k fit.regions fit.takes_form
-  of_op n (what.Constant c) os k fit t hk hv = constant_no c k fit.gives_form t
-  of_op n (what.Unary op) os k fit t hk hv = scalar_no (unary_elem op) k fit.gives_form t
-  of_op n (what.Binary op) os k fit t hk hv = scalar_no (result_elem op) k fit.gives_form t
-  of_op n what.Select os k fit t hk hv = scalar_of_no (second_kind f.values os) k fit.gives_form t
-  of_op n what.Load os k fit t hk hv = scalar_of_no (first_kind f.values os) k fit.gives_form t
-  of_op n (what.Bound word dim) os k fit t hk hv = scalar_no I32 k fit.gives_form t
-  of_op n what.Size os k fit t hk hv = scalar_no I32 k fit.gives_form t
-  of_op n what.Allocated os k fit t hk hv = scalar_no I1 k fit.gives_form t
-  of_op n what.Vector os k fit t hk hv = array_no (first_kind f.values os) 1 k fit.gives_form t
-  of_op n what.AsExpr os k fit t hk hv = array_no (first_kind f.values os) (rank_of_kind (first_kind f.values os)) k fit.gives_form t
-  of_op n what.Elemental os k fit t hk hv = elemental_no f.values (ops_in fit.regions 0) (first_kind f.values (parts_in fit.regions 0)) k fit.gives_form t
-  of_op n what.Apply os k fit t hk hv = scalar_of_no (first_kind f.values os) k fit.gives_form t
-  of_op n (what.Reduce r) os k fit t hk hv = scalar_no (total_elem r) k fit.gives_form t
-  of_op n w os k fit t hk hv = none_no k fit.gives_form t
+  of_op : (n : ℕ) (w : What) (os : List ValueId) (k : Option ValueKind) → Fits f.values w os k → is_target k ≡ true → rank_at (variable_of gs n) ≡ rank_of_kind k → length (designator_by gs n w os k).forms ≡ rank_at (designator_by gs n w os k).var
+  of_op n (what.Declare name) os k fit t rank = length-whole_forms (variable_of gs n) k fit.gives_form (and_parts (nat_lt (declares_in fit.before) declare_limit) (is_small k) fit.limits).1 ∙ sym rank
+  of_op n what.Boxed os k fit t rank = boxed_forms (first_kind f.values os) k (variable_of gs n) fit.gives_form ∙ sym rank
+  of_op n (what.Designate subs) os k fit t rank = of_designate fit.elemental n subs os k fit.regions fit.takes_form
+  of_op n (what.Constant c) os k fit t rank = constant_no c k fit.gives_form t
+  of_op n (what.Unary op) os k fit t rank = scalar_no (unary_elem op) k fit.gives_form t
+  of_op n (what.Binary op) os k fit t rank = scalar_no (result_elem op) k fit.gives_form t
+  of_op n what.Select os k fit t rank = scalar_of_no (second_kind f.values os) k fit.gives_form t
+  of_op n what.Load os k fit t rank = scalar_of_no (first_kind f.values os) k fit.gives_form t
+  of_op n (what.Bound word dim) os k fit t rank = scalar_no I32 k fit.gives_form t
+  of_op n what.Size os k fit t rank = scalar_no I32 k fit.gives_form t
+  of_op n what.Allocated os k fit t rank = scalar_no I1 k fit.gives_form t
+  of_op n what.Vector os k fit t rank = array_no (first_kind f.values os) 1 k fit.gives_form t
+  of_op n what.AsExpr os k fit t rank = array_no (first_kind f.values os) (rank_of_kind (first_kind f.values os)) k fit.gives_form t
+  of_op n what.Elemental os k fit t rank = elemental_no f.values (ops_in fit.regions 0) (first_kind f.values (parts_in fit.regions 0)) k fit.gives_form t
+  of_op n what.Apply os k fit t rank = scalar_of_no (first_kind f.values os) k fit.gives_form t
+  of_op n (what.Reduce r) os k fit t rank = scalar_no (total_elem r) k fit.gives_form t
+  of_op n w os k fit t rank = none_no k fit.gives_form t
 
   of_value : (v : ValueId) → is_target (kind_at f.values v) ≡ true → length (designator_at gs v.number).forms ≡ rank_at (designator_at gs v.number).var
   unfolding designator_at
   of_value v h =
       let g = giver_of_target f.values gs v.number zip h in
-      let n = v.number in
-      let fit = fits f g.0 (each_at (IsJudged f) gs v.number g.0 judged g.1) in
       let P : Option Op → Type 0 = λ o. length (designator_given gs v.number o).forms ≡ rank_at (designator_given gs v.number o).var in
-      subst P (sym g.1) (of_op v.number (out-Op g.0).what (out-Op g.0).operands (out-Op g.0).kind fit (ap is_target g.2 ∙ h) (ap kind_given g.1) (ap (λ o. variable_given o v.number) g.1))
+      subst P (sym g.1) (of_op v.number (out-Op g.0).what (out-Op g.0).operands (out-Op g.0).kind (fits_at v g.0 g.1) (ap is_target g.2 ∙ h) (rank_under v h ∙ ap rank_of_kind (sym g.2)))
 
 pub EachHasItsDimensions-all : (m : Module) → EachHasItsDimensions m
 EachHasItsDimensions-all m kept v h = of_value (facts_of m) (givers_of m.ops) (values_zip m.ops) (givers_judged m kept) v h

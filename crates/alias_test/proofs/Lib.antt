@@ -1,5 +1,6 @@
 pub mod Alike
 pub mod Apart
+pub mod Boxes
 pub mod Dimensions
 pub mod Giving
 pub mod Lasts
@@ -12,6 +13,7 @@ mod RelationRows
 pub mod Selecting
 pub mod Sited
 pub mod Strided
+pub mod Tabled
 pub mod Valued
 pub mod Walking
 pub mod Whole

@@ -19,13 +19,13 @@ use Rattle.hlfir_ops.specs.Opened.{trees_open}
 use Rattle.alias_test.specs.declared.designator.Sym.TheVariants as sym
 use Rattle.alias_test.specs.declared.designator.Form.{Form}
 use Rattle.alias_test.specs.declared.designator.Form.TheVariants.{Index, Range, OpaqueIndex, OpaqueRange, Vector}
-use Rattle.alias_test.specs.Givers.{givers_of}
+use Rattle.alias_test.specs.Givers.{variable_of, givers_of}
 use Rattle.alias_test.specs.Symbols.{symbol_of, symbol_at, parts_at, tree_at, trees_at}
 use Rattle.alias_test.specs.Normal.{designator_at}
 
 -- what lets the normal form compute on ops that are written out
 unfoldable ops_open : Unit {0}
-unfolding trees_open designator_at trees_at tree_at parts_at symbol_at symbol_of
+unfolding trees_open designator_at variable_of trees_at tree_at parts_at symbol_at symbol_of
     Rattle.hlfir_ops.specs.declared.op.Op.TheViews.out-Op Rattle.hlfir_ops.specs.declared.op.Op.TheViews.out-Region
     Rattle.hlfir_ops.specs.declared.op.Op.TheBlock.shown-the_row-Op-1 denote.Hole.Carrier.out denote.Hole.Carrier.shown
 ops_open = tt

@@ -16,6 +16,7 @@ mod table;
 #[cfg(test)]
 mod tests;
 mod tree;
+mod variable;
 
 pub use designator::{Designator, Form, FormList, Relation, Sym, SymList};
 pub use laws::{
