@@ -1,5 +1,6 @@
 pub mod Alike
 pub mod Apart
+mod BoxRows
 pub mod Boxes
 pub mod Dimensions
 pub mod Giving
