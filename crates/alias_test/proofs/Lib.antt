@@ -2,7 +2,9 @@ pub mod Alike
 pub mod Apart
 mod BoxRows
 pub mod Boxes
+pub mod Declares
 pub mod Dimensions
+pub mod Fitting
 pub mod Giving
 pub mod Lasts
 pub mod Meets
