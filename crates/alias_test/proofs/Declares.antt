@@ -1,5 +1,5 @@
 -- The variable of a designator is a declare.
-use Rattle.std.proofs.Common.{◌≡◌, refl, sym, ap, ◌∙◌, subst, ℕ, zero, suc, ◌<◌, Bool, true, false, ◌&&◌, ◌==◌, if◌then◌else◌, List, [], ◌∷◌, length, Option, Some, None, arith}
+use Rattle.std.proofs.Common.{◌≡◌, refl, sym, ap, ◌∙◌, subst, ℕ, zero, suc, ◌<◌, Bool, true, ◌&&◌, if◌then◌else◌, List, [], ◌∷◌, length, Option, Some, None, arith}
 use Rattle.std.specs.Prelude.{slice_get, nat_lt}
 use Rattle.std.proofs.lemmas.Bool.{and_parts}
 use Rattle.hlfir_ops.specs.declared.kinds.ValueKind.{ValueKind}
@@ -15,7 +15,6 @@ use Rattle.hlfir_ops.specs.RulesValues.{Value, kind_at, values_of, is_allocatabl
 use Rattle.hlfir_ops.specs.RulesRegions.{first_kind}
 use Rattle.hlfir_ops.specs.RulesForms.{takes, is_boxed, is_part_of, section_rank, take_subscripts}
 use Rattle.hlfir_ops.specs.RulesStatements.{is_declare}
-use Rattle.hlfir_ops.specs.Rules.{KeepsRules}
 use Rattle.alias_test.specs.Givers.{held_by, held_given, held_at, variable_of, givers_of}
 use Rattle.alias_test.specs.Symbols.{are_earlier}
 use Rattle.alias_test.specs.Normal.{designator_by, designator_given, designator_at}

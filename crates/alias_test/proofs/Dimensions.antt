@@ -8,7 +8,7 @@ use Rattle.ws_space.specs.declared.shape.Shape.{Shape}
 use Rattle.ws_space.specs.Shapes.{dims, places_from}
 use Rattle.ws_space.specs.WellFormed.{elements}
 use Rattle.ws_space.proofs.Places.{length-places_from}
-use Rattle.hlfir_ops.specs.declared.kinds.Elem.TheVariants.{I32, I1}
+use Rattle.hlfir_ops.specs.declared.kinds.Elem.TheVariants.{I32}
 use Rattle.hlfir_ops.specs.declared.kinds.ValueKind.{ValueKind}
 use Rattle.hlfir_ops.specs.declared.kinds.ValueKind.TheVariants as kind
 use Rattle.hlfir_ops.specs.declared.what.SubKind.{SubKind}

@@ -14,7 +14,13 @@ fn held_by(op: &Op, v: ValueId) -> Option<ValueId>
 {
     match &op.what {
         What::Boxed => match op.operands.as_slice() {
-            [held, ..] => { if held.number < v.number { Some(*held) } else { None } }
+            [held, ..] => {
+                if held.number < v.number {
+                    Some(*held)
+                } else {
+                    None
+                }
+            }
             [] => None,
         },
         _ => None,
