@@ -1,7 +1,6 @@
 -- A designator has a form for each dimension of its variable.
-use Rattle.std.proofs.Common.{◌≡◌, refl, sym, ap, ◌∙◌, subst, ℕ, zero, suc, ◌≤◌, Bool, true, ◌&&◌, ◌==◌, List, [], ◌∷◌, length, Option, Some, None, Result, Ok, Err, ℤ, arith, eqb-true, leb-true}
+use Rattle.std.proofs.Common.{◌≡◌, refl, sym, ap, ◌∙◌, subst, ℕ, zero, suc, ◌<◌, ◌≤◌, Bool, true, ◌&&◌, ◌==◌, List, [], ◌∷◌, length, Option, Some, None, Result, Ok, Err, arith, eqb-true, leb-true}
 use Rattle.std.specs.Prelude.{slice_get, nat_lt, nat_le, IfOk}
-use Rattle.std.specs.List.{list_all, AllZip}
 use Rattle.std.proofs.lemmas.Bool.{and_parts}
 use Rattle.std.proofs.lemmas.List.{length-map, length-take}
 use Rattle.ws_space.specs.declared.shape.Dim.{Dim}
@@ -9,8 +8,7 @@ use Rattle.ws_space.specs.declared.shape.Shape.{Shape}
 use Rattle.ws_space.specs.Shapes.{dims, places_from}
 use Rattle.ws_space.specs.WellFormed.{elements}
 use Rattle.ws_space.proofs.Places.{length-places_from}
-use Rattle.hlfir_ops.specs.declared.kinds.Elem.{Elem}
-use Rattle.hlfir_ops.specs.declared.kinds.Elem.TheVariants.{I32, I1}
+use Rattle.hlfir_ops.specs.declared.kinds.Elem.TheVariants.{I32}
 use Rattle.hlfir_ops.specs.declared.kinds.ValueKind.{ValueKind}
 use Rattle.hlfir_ops.specs.declared.kinds.ValueKind.TheVariants as kind
 use Rattle.hlfir_ops.specs.declared.what.SubKind.{SubKind}
@@ -21,19 +19,18 @@ use Rattle.hlfir_ops.specs.declared.op.ValueId.{ValueId}
 use Rattle.hlfir_ops.specs.declared.op.Op.{Op, out-Op}
 use Rattle.hlfir_ops.specs.declared.op.Region.{Region}
 use Rattle.hlfir_ops.specs.declared.op.Module.{Module}
-use Rattle.hlfir_ops.specs.RulesValues.{Value, kind_at, rank_of, same_elem, elem_of, is_scalar, is_allocatable, is_reference, has_rank, is_index_vector, is_target}
-use Rattle.hlfir_ops.specs.RulesRegions.{first_kind, parts_in, ops_in}
-use Rattle.hlfir_ops.specs.RulesForms.{has_regions, is_filled_where, takes, gives, is_variable, is_none, has_constant, is_scalar_of, second_kind, is_boxed, is_array_of, rank_of_kind, is_elemental_of, take_subscripts, unary_elem, result_elem, total_elem}
 use Rattle.hlfir_ops.specs.RulesLimits.{is_small, is_small_shape, declares_in, declare_limit, rank_limit, element_limit}
-use Rattle.hlfir_ops.specs.RulesPlaces.{Place}
-use Rattle.hlfir_ops.specs.Rules.{Facts, facts_of, kept, operands_fit, result_fits, own_limits, counts_fit, limits_fit, KeepsRules}
 use Rattle.alias_test.specs.declared.designator.Designator.{Designator}
-use Rattle.alias_test.specs.Givers.{kind_given, under_box, variable_given, variable_of, givers_of}
 use Rattle.alias_test.specs.Normal.{forms_of, declared_forms, kept_forms, whole_form, whole_forms, designator_by, designator_given, designator_at}
 use Rattle.alias_test.specs.Laws.{IsDesignator, HasDimensions, EachHasItsDimensions}
+use Rattle.hlfir_ops.specs.RulesValues.{Value, kind_at, values_of, rank_of, same_elem, elem_of, is_scalar, is_reference, has_rank, is_index_vector, is_target}
+use Rattle.hlfir_ops.specs.RulesRegions.{first_kind}
+use Rattle.hlfir_ops.specs.RulesForms.{takes, gives, is_variable, is_boxed, rank_of_kind, take_subscripts}
+use Rattle.hlfir_ops.specs.Rules.{KeepsRules}
+use Rattle.alias_test.specs.Givers.{kind_given, held_by, held_given, held_at, variable_of, givers_of}
+use Rattle.alias_test.proofs.Boxes.{held_first, held_at-earlier, variable_of-box, variable_of-itself}
+use Rattle.alias_test.proofs.Fitting.{Fits, IsGiven, given, names_part, gives_target, allocatable_target, reference_target}
 use Rattle.alias_test.proofs.Numbers.{never}
-use Rattle.alias_test.proofs.Sited.{Each, IsJudged, each_at, givers_judged}
-use Rattle.alias_test.proofs.Valued.{GivenBy, giver_of_target, values_zip}
 
 -- ---- how many forms
 
@@ -67,77 +64,7 @@ length-forms_of gs vs (sub.Range ∷ subs) (l ∷ u ∷ s ∷ more) h =
 length-forms_of gs vs (sub.Vector ∷ subs) [] h = never h
 length-forms_of gs vs (sub.Vector ∷ subs) (v ∷ more) h = ap suc (length-forms_of gs vs subs more (and_parts (is_index_vector (kind_at vs v)) (take_subscripts vs subs more) h).1)
 
--- ---- what the rules say of one op
-
-true_at : (bs : List Bool) (k : ℕ) (b : Bool) → list_all (λ x. x) bs ≡ true → slice_get bs k ≡ Some b → b ≡ true
-true_at [] k b h e = cc
-true_at (x ∷ xs) zero b h e = let same : x ≡ b = cc in sym same ∙ (and_parts x (list_all (λ y. y) xs) h).0
-true_at (x ∷ xs) (suc k) b h e = true_at xs k b (and_parts x (list_all (λ y. y) xs) h).1 e
-
--- the operands and result of an op of this sort are those of its form, and if it is a declare it is small
-record Fits (vs : List Value) (w : What) (os : List ValueId) (k : Option ValueKind) : Type 0 where
-  elemental : Bool
-  regions : List Region
-  bodies : ℕ
-  before : List Op
-  takes_form : takes elemental vs w os regions ≡ true
-  gives_form : gives vs w os k regions ≡ true
-  limits : own_limits bodies before w os k ≡ true
-
-fits : (f : Facts) (op : Op) → IsJudged f op → Fits f.values (out-Op op).what (out-Op op).operands (out-Op op).kind
-unfolding operands_fit result_fits limits_fit
-fits f op judged =
-    let p : Place = judged.0 in
-    let o = out-Op op in
-    let operands = true_at (kept f p op) 1 (operands_fit p.around.elemental f.values op) judged.1 refl in
-    let result = true_at (kept f p op) 2 (result_fits f.values op) judged.1 refl in
-    let limits = true_at (kept f p op) 11 (limits_fit p.around f.values p.before op) judged.1 refl in
-    record {
-      elemental = p.around.elemental;
-      regions = o.regions;
-      bodies = p.around.bodies;
-      before = p.before;
-      takes_form = (and_parts (has_regions o.what (length o.regions) && is_filled_where o.what o.regions) (takes p.around.elemental f.values o.what o.operands o.regions) operands).1;
-      gives_form = result;
-      limits = (and_parts (own_limits p.around.bodies p.before o.what o.operands o.kind) (counts_fit p.around.masked p.around.shared f.values o.what op) limits).0;
-    }
-
--- ---- kinds that are no reference or section
-
-scalar_no : {A : Type 0} (e : Elem) (k : Option ValueKind) → is_scalar e k ≡ true → is_target k ≡ true → A
-scalar_no e (Some (kind.Scalar f)) h t = never t
-scalar_no e _ h t = never h
-
-scalar_of_no : {A : Type 0} (o k : Option ValueKind) → is_scalar_of o k ≡ true → is_target k ≡ true → A
-scalar_of_no (Some o) k h t = scalar_no (elem_of o) k h t
-scalar_of_no None k h t = never h
-
-constant_no : {A : Type 0} (c : ℤ) (k : Option ValueKind) → has_constant c k ≡ true → is_target k ≡ true → A
-constant_no c (Some (kind.Scalar e)) h t = never t
-constant_no c _ h t = never h
-
-array_no : {A : Type 0} (o : Option ValueKind) (n : ℕ) (k : Option ValueKind) → is_array_of o n k ≡ true → is_target k ≡ true → A
-array_no (Some o) n (Some (kind.Array e rank)) h t = never t
-array_no (Some o) n _ h t = never h
-array_no None n k h t = never h
-
-elemental_no : {A : Type 0} (vs : List Value) (ops : List Op) (o k : Option ValueKind) → is_elemental_of vs ops o k ≡ true → is_target k ≡ true → A
-elemental_no vs ops (Some o) (Some (kind.Array e rank)) h t = never t
-elemental_no vs ops (Some o) _ h t = never h
-elemental_no vs ops None k h t = never h
-
-none_no : {A : Type 0} (k : Option ValueKind) → is_none k ≡ true → is_target k ≡ true → A
-none_no None h t = never t
-none_no (Some k) h t = never h
-
-allocatable_target : (k : Option ValueKind) → is_allocatable k ≡ true → is_target k ≡ true
-allocatable_target (Some (kind.Allocatable e rank)) h = refl
-allocatable_target _ h = never h
-
-reference_target : (k : Option ValueKind) → is_reference k ≡ true → is_target k ≡ true
-reference_target (Some (kind.Declared e shape)) h = refl
-reference_target (Some (kind.Allocatable e rank)) h = refl
-reference_target _ h = never h
+-- ---- ranks
 
 rank_is : (n : ℕ) (k : Option ValueKind) → has_rank n k ≡ true → rank_of_kind k ≡ n
 rank_is n (Some k) h = eqb-true (rank_of k) n h
@@ -155,69 +82,70 @@ boxed_forms None k var h = never h
 
 -- ---- the values of a module that keeps the rules
 
-module _ (f : Facts) (gs : List Op) (zip : AllZip GivenBy f.values gs) (judged : Each (IsJudged f) gs) where
+module _ (vs : List Value) (gs : List Op) (given_at : (v : ValueId) → is_target (kind_at vs v) ≡ true → IsGiven vs gs v) where
   -- the rank of the variable with this declare
   abbrev rank_at : ℕ → ℕ
   rank_at n = rank_of_kind (kind_given (slice_get gs n))
 
-  kind_is : (v : ValueId) → is_target (kind_at f.values v) ≡ true → kind_given (slice_get gs v.number) ≡ kind_at f.values v
-  kind_is v h = let g = giver_of_target f.values gs v.number zip h in ap kind_given g.1 ∙ g.2
+  -- What a box holds is a reference of its rank.
+  held_rank : (e : Bool) (n : ℕ) (w : What) (os : List ValueId) (k : Option ValueKind) (rs : List Region) (p : ValueId) → held_by w os n ≡ Some p → takes e vs w os rs ≡ true → gives vs w os k rs ≡ true →
+      (is_target (kind_at vs p) ≡ true) × (rank_of_kind (kind_at vs p) ≡ rank_of_kind k)
+  held_rank e n what.Boxed [] k rs p held t g = never t
+  held_rank e n what.Boxed (q ∷ []) k rs p held t g =
+      let same : q ≡ p = (held_first n q [] p held).1 in
+      (subst (λ (x : ValueId). is_target (kind_at vs x) ≡ true) same (allocatable_target (kind_at vs q) t), ap (λ (x : ValueId). rank_of_kind (kind_at vs x)) (sym same) ∙ sym (boxed_rank (kind_at vs q) k g))
+  held_rank e n what.Boxed (q ∷ r ∷ more) k rs p held t g = never t
+  held_rank e n w os k rs p held t g = cc
 
-  box_rank : (e : Bool) (os : List ValueId) (k : Option ValueKind) (rs : List Region) (n : ℕ) → takes e f.values what.Boxed os rs ≡ true → gives f.values what.Boxed os k rs ≡ true → rank_at (under_box what.Boxed os n) ≡ rank_of_kind k
-  box_rank e [] k rs n t g = never t
-  box_rank e (p ∷ []) k rs n t g = ap rank_of_kind (kind_is p (allocatable_target (kind_at f.values p) t)) ∙ sym (boxed_rank (kind_at f.values p) k g)
-  box_rank e (p ∷ q ∷ more) k rs n t g = never t
+  held_at_rank : (v p : ValueId) → is_target (kind_at vs v) ≡ true → held_at gs v.number ≡ Some p → (is_target (kind_at vs p) ≡ true) × (rank_of_kind (kind_at vs p) ≡ rank_of_kind (kind_at vs v))
+  held_at_rank v p h held =
+      let g = given_at v h in
+      let o = out-Op g.op in
+      let under = held_rank g.form.elemental v.number o.what o.operands o.kind g.form.regions p (ap (λ x. held_given x v.number) (sym g.stands) ∙ held) g.form.takes_form g.form.gives_form in
+      (under.0, under.1 ∙ ap rank_of_kind g.kind_is)
 
-  -- what is under a box has its rank
-  rank_by : (n : ℕ) (w : What) (os : List ValueId) (k : Option ValueKind) → Fits f.values w os k → kind_given (slice_get gs n) ≡ k → rank_at (under_box w os n) ≡ rank_of_kind k
-  rank_by n what.Boxed os k fit same = box_rank fit.elemental os k fit.regions n fit.takes_form fit.gives_form
-  rank_by n w os k fit same = ap rank_of_kind same
+  abbrev HasRank : ValueId → Type 0
+  HasRank v = is_target (kind_at vs v) ≡ true → rank_at (variable_of gs v.number) ≡ rank_of_kind (kind_at vs v)
 
-  rank_under : (v : ValueId) → is_target (kind_at f.values v) ≡ true → rank_at (variable_of gs v.number) ≡ rank_of_kind (kind_at f.values v)
-  rank_under v h =
-      let g = giver_of_target f.values gs v.number zip h in
-      let fit = fits f g.0 (each_at (IsJudged f) gs v.number g.0 judged g.1) in
-      ap (λ o. rank_at (variable_given o v.number)) g.1 ∙ (rank_by v.number (out-Op g.0).what (out-Op g.0).operands (out-Op g.0).kind fit (ap kind_given g.1) ∙ ap rank_of_kind g.2)
+  rank_held : (v : ValueId) (o : Option ValueId) → ((p : ValueId) → p.number < v.number → HasRank p) → held_at gs v.number ≡ o → HasRank v
+  rank_held v (Some p) earlier held h =
+      let under = held_at_rank v p h held in
+      ap rank_at (variable_of-box gs v.number p held) ∙ (earlier p (held_at-earlier gs v.number p held) under.0 ∙ under.1)
+  rank_held v None earlier held h = let g = given_at v h in ap rank_at (variable_of-itself gs v.number held) ∙ ap rank_of_kind (ap kind_given g.stands ∙ g.kind_is)
 
-  of_designate : (e : Bool) (n : ℕ) (subs : List SubKind) (os : List ValueId) (k : Option ValueKind) (rs : List Region) → takes e f.values (what.Designate subs) os rs ≡ true →
+  rank_below : (bound : ℕ) (v : ValueId) → v.number < bound → HasRank v
+  rank_below zero v below = absurd (omega arith)
+  rank_below (suc bound) v below = rank_held v (held_at gs v.number) (λ p earlier. rank_below bound p (omega arith)) refl
+
+  -- The variable under boxes has their rank.
+  rank_under : (v : ValueId) → HasRank v
+  rank_under v = rank_below (suc v.number) v (omega arith)
+
+  of_designate : (e : Bool) (n : ℕ) (subs : List SubKind) (os : List ValueId) (k : Option ValueKind) (rs : List Region) → takes e vs (what.Designate subs) os rs ≡ true →
       length (designator_by gs n (what.Designate subs) os k).forms ≡ rank_at (designator_by gs n (what.Designate subs) os k).var
   of_designate e n subs [] k rs t = never t
   of_designate e n subs (r ∷ more) k rs t =
-      let parts = and_parts (is_reference (kind_at f.values r) && has_rank (length subs) (kind_at f.values r)) (take_subscripts f.values subs more) t in
-      let base = and_parts (is_reference (kind_at f.values r)) (has_rank (length subs) (kind_at f.values r)) parts.0 in
-      length-forms_of gs f.values subs more parts.1 ∙ sym (rank_under r (reference_target (kind_at f.values r) base.0) ∙ rank_is (length subs) (kind_at f.values r) base.1)
+      let parts = and_parts (is_reference (kind_at vs r) && has_rank (length subs) (kind_at vs r)) (take_subscripts vs subs more) t in
+      let base = and_parts (is_reference (kind_at vs r)) (has_rank (length subs) (kind_at vs r)) parts.0 in
+      length-forms_of gs vs subs more parts.1 ∙ sym (rank_under r (reference_target (kind_at vs r) base.0) ∙ rank_is (length subs) (kind_at vs r) base.1)
 
-  of_op : (n : ℕ) (w : What) (os : List ValueId) (k : Option ValueKind) → Fits f.values w os k → is_target k ≡ true → kind_given (slice_get gs n) ≡ k → variable_of gs n ≡ under_box w os n → length (designator_by gs n w os k).forms ≡ rank_at (designator_by gs n w os k).var
-  of_op n (what.Declare name) os k fit t hk hv =
-      length-whole_forms (variable_of gs n) k fit.gives_form (and_parts (nat_lt (declares_in fit.before) declare_limit) (is_small k) fit.limits).1 ∙ sym (ap rank_at hv ∙ rank_by n (what.Declare name) os k fit hk)
-  of_op n what.Boxed os k fit t hk hv = boxed_forms (first_kind f.values os) k (variable_of gs n) fit.gives_form ∙ sym (ap rank_at hv ∙ rank_by n what.Boxed os k fit hk)
-  of_op n (what.Designate subs) os k fit t hk hv = of_designate fit.elemental n subs os k fit.regions fit.takes_form
-  of_op n (what.Constant c) os k fit t hk hv = constant_no c k fit.gives_form t
-  of_op n (what.Unary op) os k fit t hk hv = scalar_no (unary_elem op) k fit.gives_form t
-  of_op n (what.Binary op) os k fit t hk hv = scalar_no (result_elem op) k fit.gives_form t
-  of_op n what.Select os k fit t hk hv = scalar_of_no (second_kind f.values os) k fit.gives_form t
-  of_op n what.Load os k fit t hk hv = scalar_of_no (first_kind f.values os) k fit.gives_form t
-  of_op n (what.Bound word dim) os k fit t hk hv = scalar_no I32 k fit.gives_form t
-  of_op n what.Size os k fit t hk hv = scalar_no I32 k fit.gives_form t
-  of_op n what.Allocated os k fit t hk hv = scalar_no I1 k fit.gives_form t
-  of_op n what.Vector os k fit t hk hv = array_no (first_kind f.values os) 1 k fit.gives_form t
-  of_op n what.AsExpr os k fit t hk hv = array_no (first_kind f.values os) (rank_of_kind (first_kind f.values os)) k fit.gives_form t
-  of_op n what.Elemental os k fit t hk hv = elemental_no f.values (ops_in fit.regions 0) (first_kind f.values (parts_in fit.regions 0)) k fit.gives_form t
-  of_op n what.Apply os k fit t hk hv = scalar_of_no (first_kind f.values os) k fit.gives_form t
-  of_op n (what.Reduce r) os k fit t hk hv = scalar_no (total_elem r) k fit.gives_form t
-  of_op n w os k fit t hk hv = none_no k fit.gives_form t
+  of_op : (n : ℕ) (w : What) (os : List ValueId) (k : Option ValueKind) (fit : Fits vs n w os k) → names_part w ≡ true → rank_at (variable_of gs n) ≡ rank_of_kind k → length (designator_by gs n w os k).forms ≡ rank_at (designator_by gs n w os k).var
+  of_op n (what.Declare name) os k fit names rank = length-whole_forms (variable_of gs n) k fit.gives_form (and_parts (nat_lt (declares_in fit.before) declare_limit) (is_small k) fit.limits).1 ∙ sym rank
+  of_op n what.Boxed os k fit names rank = boxed_forms (first_kind vs os) k (variable_of gs n) fit.gives_form ∙ sym rank
+  of_op n (what.Designate subs) os k fit names rank = of_designate fit.elemental n subs os k fit.regions fit.takes_form
+  of_op n w os k fit names rank = never names
 
-  of_value : (v : ValueId) → is_target (kind_at f.values v) ≡ true → length (designator_at gs v.number).forms ≡ rank_at (designator_at gs v.number).var
+  of_value : (v : ValueId) → is_target (kind_at vs v) ≡ true → length (designator_at gs v.number).forms ≡ rank_at (designator_at gs v.number).var
   unfolding designator_at
   of_value v h =
-      let g = giver_of_target f.values gs v.number zip h in
-      let n = v.number in
-      let fit = fits f g.0 (each_at (IsJudged f) gs v.number g.0 judged g.1) in
-      let P : Option Op → Type 0 = λ o. length (designator_given gs v.number o).forms ≡ rank_at (designator_given gs v.number o).var in
-      subst P (sym g.1) (of_op v.number (out-Op g.0).what (out-Op g.0).operands (out-Op g.0).kind fit (ap is_target g.2 ∙ h) (ap kind_given g.1) (ap (λ o. variable_given o v.number) g.1))
+      let g = given_at v h in
+      let o = out-Op g.op in
+      let P : Option Op → Type 0 = λ x. length (designator_given gs v.number x).forms ≡ rank_at (designator_given gs v.number x).var in
+      let names = gives_target vs o.what o.operands o.kind g.form.regions g.form.gives_form (ap is_target g.kind_is ∙ h) in
+      subst P (sym g.stands) (of_op v.number o.what o.operands o.kind g.form names (rank_under v h ∙ ap rank_of_kind (sym g.kind_is)))
 
 pub EachHasItsDimensions-all : (m : Module) → EachHasItsDimensions m
-EachHasItsDimensions-all m kept v h = of_value (facts_of m) (givers_of m.ops) (values_zip m.ops) (givers_judged m kept) v h
+EachHasItsDimensions-all m kept v h = of_value (values_of m.ops) (givers_of m.ops) (given m kept) v h
 
 -- a designator that is asked of the table of the module
 pub result_has_dimensions : (m : Module) (v : ValueId) (gs : List Op) {E : Type 0} (r : Result Designator E) → KeepsRules m → IsDesignator m v → gs ≡ givers_of m.ops → IfOk r (λ d. d ≡ designator_at gs v.number) → IfOk r (HasDimensions m)

@@ -19,20 +19,20 @@ use Rattle.hlfir_ops.specs.Opened.{trees_open}
 use Rattle.alias_test.specs.declared.designator.Sym.TheVariants as sym
 use Rattle.alias_test.specs.declared.designator.Form.{Form}
 use Rattle.alias_test.specs.declared.designator.Form.TheVariants.{Index, Range, OpaqueIndex, OpaqueRange, Vector}
-use Rattle.alias_test.specs.Givers.{givers_of}
+use Rattle.alias_test.specs.Givers.{variable_of, givers_of}
 use Rattle.alias_test.specs.Symbols.{symbol_of, symbol_at, parts_at, tree_at, trees_at}
 use Rattle.alias_test.specs.Normal.{designator_at}
 
 -- what lets the normal form compute on ops that are written out
-unfoldable ops_open : Unit {0}
-unfolding trees_open designator_at trees_at tree_at parts_at symbol_at symbol_of
+unfoldable pub ops_open : Unit {0}
+unfolding trees_open designator_at variable_of trees_at tree_at parts_at symbol_at symbol_of
     Rattle.hlfir_ops.specs.declared.op.Op.TheViews.out-Op Rattle.hlfir_ops.specs.declared.op.Op.TheViews.out-Region
     Rattle.hlfir_ops.specs.declared.op.Op.TheBlock.shown-the_row-Op-1 denote.Hole.Carrier.out denote.Hole.Carrier.shown
 ops_open = tt
 
 -- ---- short words for ops
 
-abbrev gives : What → List ℕ → ValueKind → Op
+abbrev pub gives : What → List ℕ → ValueKind → Op
 gives w os k = op_of w 0 (map (λ n. record { number = n }) os) (Some k) []
 
 abbrev i32 : ValueKind
@@ -41,13 +41,13 @@ i32 = kind.Scalar I32
 abbrev i1 : ValueKind
 i1 = kind.Scalar I1
 
-abbrev number : ℕ → Op
+abbrev pub number : ℕ → Op
 number n = gives (what.Constant (pos n)) [] i32
 
 abbrev dim : ℕ → ℕ → Dim
 dim lower extent = record { lower = pos lower; extent = extent }
 
-abbrev declares : ValueKind → Op
+abbrev pub declares : ValueKind → Op
 declares k = gives (what.Declare (97 ∷ [])) [] k
 
 abbrev vector_kind : ValueKind
@@ -56,16 +56,16 @@ vector_kind = kind.Declared I32 (shape_of (dim 1 5 ∷ []))
 abbrev section : ValueKind
 section = kind.Section I32 1
 
-abbrev range : List ℕ → Op
+abbrev pub range : List ℕ → Op
 range os = gives (what.Designate (sub.Range ∷ [])) os section
 
-abbrev element : List ℕ → Op
+abbrev pub element : List ℕ → Op
 element os = gives (what.Designate (sub.One ∷ [])) os (kind.Place I32)
 
-abbrev lower : ℕ → Op
+abbrev pub lower : ℕ → Op
 lower n = gives (what.Bound bound.Lower 1) (n ∷ []) i32
 
-abbrev upper : ℕ → Op
+abbrev pub upper : ℕ → Op
 upper n = gives (what.Bound bound.Upper 1) (n ∷ []) i32
 
 abbrev binary_op : ℕ → ℕ → Op

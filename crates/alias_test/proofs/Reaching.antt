@@ -20,7 +20,6 @@ makes_next a b w0 w1 q d r1 r2 m j e f h0 h1 =
 
 pub makes-next : (a b w0 w1 r0 r1 j : ℕ) → w1 < a → a ∣ b * w0 + r0 → a ∣ b * w1 + r1 → j ≡ (w0 + r0 / r1 * (a - w1)) % a → a ∣ b * j + r0 % r1
 makes-next a b w0 w1 r0 r1 j below h0 h1 e =
-    let W : ℕ = w0 + r0 / r1 * (a - w1) in
     let P : ℕ → Type 0 = λ x. a ∣ b * w0 + x in
     let parts : a * ((w0 + r0 / r1 * (a - w1)) / a) + j ≡ w0 + r0 / r1 * (a - w1) = ap (λ x. a * ((w0 + r0 / r1 * (a - w1)) / a) + x) e ∙ div-add-mod (w0 + r0 / r1 * (a - w1)) a in
     makes_next a b w0 w1 (r0 / r1) (a - w1) r1 (r0 % r1) ((w0 + r0 / r1 * (a - w1)) / a) j (omega arith) parts (subst P (sym (div-add-mod r0 r1)) h0) h1

@@ -11,7 +11,7 @@ use Rattle.alias_test.specs.declared.designator.Form.TheVariants.{Index, Range, 
 use Rattle.alias_test.specs.declared.designator.Designator.{Designator}
 use Rattle.alias_test.specs.Relations.{constants_of, same_range, relation}
 
-unfoldable relations_open : Unit {0}
+unfoldable pub relations_open : Unit {0}
 unfolding relation constants_of same_range
 relations_open = tt
 

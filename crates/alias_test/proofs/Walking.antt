@@ -1,30 +1,18 @@
 -- Trees that are written from their end.
-use Rattle.std.proofs.Common.{◌≡◌, refl, ap, sym, ◌∙◌, inl, inr, ℕ, zero, suc, ◌<◌, Bool, true, false, List, [], ◌∷◌, ◌++◌, reverse, length, get_or, Option, Some, None, append_assoc, arith, if◌then◌else◌}
+use Rattle.std.proofs.Common.{◌≡◌, refl, ap, sym, ◌∙◌, ℕ, Bool, true, false, List, [], ◌∷◌, ◌++◌, reverse, get_or, Option, Some, None, append_assoc, if◌then◌else◌}
 use Rattle.std.specs.Prelude.{slice_get, nat_lt}
 use Rattle.std.specs.List.{flat_map}
-use Rattle.std.proofs.lemmas.Bool.{ltb-true, and_parts, cases_lt}
-use Rattle.std.proofs.lemmas.List.{append-nil, reverse-append, get_or_append_left, get_or_at, length-append}
+use Rattle.std.proofs.lemmas.Bool.{ltb-true, and_parts}
+use Rattle.std.proofs.lemmas.List.{append-nil, reverse-append}
 use Rattle.hlfir_ops.specs.declared.op.ValueId.{ValueId}
 use Rattle.hlfir_ops.specs.declared.op.Op.{Op, out-Op}
 use Rattle.alias_test.specs.declared.designator.Sym.{Sym}
 use Rattle.alias_test.specs.declared.designator.Sym.TheVariants.{Unary, Binary, Other}
-use Rattle.alias_test.specs.Symbols.{are_earlier, symbol_by, symbol_of, parts_by, parts_given, parts_at, symbol_at, tree_after, trees_before, tree_at, trees_at}
+use Rattle.alias_test.specs.Symbols.{are_earlier, symbol_by, symbol_of, parts_by, parts_given, parts_at, symbol_at, tree_after, tree_at, trees_at}
+use Rattle.alias_test.specs.Tables.{entries_before}
+use Rattle.alias_test.proofs.Tabled.{get_or-entries_before}
 
 -- ---- a tree from those of its parts
-
-length-trees_before : (gs : List Op) (n : ℕ) → length (trees_before gs n) ≡ n
-length-trees_before gs zero = refl
-length-trees_before gs (suc n) = length-append (trees_before gs n) (tree_after gs n (trees_before gs n) ∷ []) ∙ omega (arith, length-trees_before gs n)
-
-get_or-trees_before : (gs : List Op) (n m : ℕ) → m < n → get_or (trees_before gs n) m [] ≡ tree_at gs m
-unfolding tree_at
-get_or-trees_before gs zero m below = absurd (omega arith)
-get_or-trees_before gs (suc n) m below =
-    let count : length (trees_before gs n) ≡ n = length-trees_before gs n in
-    elim (cases_lt m n) [
-      | inl lt ↦ get_or_append_left (trees_before gs n) (tree_after gs n (trees_before gs n) ∷ []) [] m (omega arith) ∙ get_or-trees_before gs n m lt
-      | inr ge ↦ let same : n ≡ m = omega arith in get_or_at (trees_before gs n) (tree_after gs n (trees_before gs n)) [] [] m (count ∙ same) ∙ ap (λ k. tree_after gs k (trees_before gs k)) same
-    ]
 
 -- the parts are earlier values
 parts_earlier : (n : ℕ) (s : Sym) (os : List ValueId) → are_earlier n os ≡ true → are_earlier n (parts_by s os) ≡ true
@@ -48,12 +36,12 @@ parts_at-earlier : (gs : List Op) (n : ℕ) → are_earlier n (parts_at gs n) �
 unfolding parts_at
 parts_at-earlier gs n = parts_given-earlier gs n (slice_get gs n)
 
-among : (gs : List Op) (n : ℕ) (vs : List ValueId) → are_earlier n vs ≡ true → flat_map (λ v. get_or (trees_before gs n) v.number []) vs ≡ trees_at gs vs
-unfolding trees_at
+among : (gs : List Op) (n : ℕ) (vs : List ValueId) → are_earlier n vs ≡ true → flat_map (λ v. get_or (entries_before (tree_after gs) n) v.number []) vs ≡ trees_at gs vs
+unfolding trees_at tree_at
 among gs n [] e = refl
 among gs n (v ∷ vs) e =
     let both = and_parts (nat_lt v.number n) (are_earlier n vs) e in
-    ap (λ l. l ++ flat_map (λ v. get_or (trees_before gs n) v.number []) vs) (get_or-trees_before gs n v.number (ltb-true v.number n both.0)) ∙ ap (λ l. tree_at gs v.number ++ l) (among gs n vs both.1)
+    ap (λ l. l ++ flat_map (λ v. get_or (entries_before (tree_after gs) n) v.number []) vs) (get_or-entries_before (tree_after gs) n v.number [] (ltb-true v.number n both.0)) ∙ ap (λ l. tree_at gs v.number ++ l) (among gs n vs both.1)
 
 pub tree_at-parts : (gs : List Op) (n : ℕ) → tree_at gs n ≡ trees_at gs (parts_at gs n) ++ symbol_at gs n ∷ []
 unfolding tree_at
@@ -78,7 +66,6 @@ trees_at-none gs = refl
 pub written_more : (gs : List Op) (left rest more values : List ValueId) (v : ValueId) (back next : List Sym) → left ≡ rest ++ v ∷ [] → more ≡ rest ++ parts_at gs v.number → next ≡ back ++ symbol_at gs v.number ∷ [] →
     trees_at gs left ++ reverse back ≡ trees_at gs values → trees_at gs more ++ reverse next ≡ trees_at gs values
 written_more gs left rest more values v back next split parts symbol whole =
-    let s : Sym = symbol_at gs v.number in
     let before = trees_at gs rest in
     let below = trees_at gs (parts_at gs v.number) in
     let here : trees_at gs left ≡ before ++ (below ++ symbol_at gs v.number ∷ []) =

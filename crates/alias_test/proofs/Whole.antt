@@ -35,7 +35,6 @@ places_push k (suc n) = let same : suc k + n ≡ k + suc n = omega arith in ap (
 
 pub kept_next : (var n : ℕ) (w : Form) (fs gs : List Form) → w ≡ whole_form var (n + 1) None None → gs ≡ fs ++ w ∷ [] → fs ≡ kept_forms var n → gs ≡ kept_forms var (n + 1)
 kept_next var n w fs gs form more so_far =
-    let f : ℕ → Form = λ (dim : ℕ). whole_form var dim None None in
     let place : n + 1 ≡ 1 + n = omega arith in
     more ∙ (ap (λ l. l ++ w ∷ []) so_far ∙ (ap (λ x. kept_forms var n ++ x ∷ []) (form ∙ ap (λ dim. whole_form var dim None None) place)
     ∙ (sym (map-append (λ (dim : ℕ). whole_form var dim None None) (places_from 1 n) ((1 + n) ∷ [])) ∙ (ap (map (λ (dim : ℕ). whole_form var dim None None)) (sym (places_push 1 n)) ∙ ap (kept_forms var) (sym (add-one n))))))

@@ -1,5 +1,5 @@
 -- The op that gives each value of a module, in the order of the values' numbers. An index name is given by its forall.
-use Rattle.std.specs.Prelude.{ℕ, suc, List, [], ◌∷◌, ◌++◌, map, Option, Some, None, slice_get}
+use Rattle.std.specs.Prelude.{ℕ, suc, nat_lt, if◌then◌else◌, List, [], ◌∷◌, ◌++◌, map, Option, Some, None, slice_get, slice_index_or}
 use Rattle.std.specs.Borrow.{Bor}
 use mathlib.Core.Former.{Count}
 use Rattle.hlfir_ops.specs.declared.kinds.ValueKind.{ValueKind}
@@ -10,6 +10,7 @@ use Rattle.hlfir_ops.specs.declared.op.Op.{Op, Op', out-Op}
 use Rattle.hlfir_ops.specs.declared.op.Region.{Region, Region', out-Region}
 use Rattle.hlfir_ops.specs.Trees.{Ops, end_ops, more_ops, Regions, end_regions, more_regions}
 use Rattle.hlfir_ops.specs.Numbers.{names_in}
+use Rattle.alias_test.specs.Tables.{entry_at}
 
 abbrev pub own_givers : Op → Option ValueKind → List Op
 own_givers op (Some kind) = op ∷ []
@@ -53,14 +54,26 @@ abbrev pub kind_given : Option Op → Option ValueKind
 kind_given (Some op) = (out-Op op).kind
 kind_given None = None
 
-abbrev pub under_box : What → List ValueId → ℕ → ℕ
-under_box what.Boxed (v ∷ more) n = v.number
-under_box w os n = n
+-- what this box holds, where that is an earlier value; in a module that keeps the rules it always is
+abbrev pub held_by : What → List ValueId → ℕ → Option ValueId
+held_by what.Boxed (v ∷ more) n = if nat_lt v.number n then Some v else None
+held_by w os n = None
 
-abbrev pub variable_given : Option Op → ℕ → ℕ
-variable_given (Some op) n = under_box (out-Op op).what (out-Op op).operands n
-variable_given None n = n
+abbrev pub held_given : Option Op → ℕ → Option ValueId
+held_given (Some op) n = held_by (out-Op op).what (out-Op op).operands n
+held_given None n = None
 
--- the declare of the variable to which this value refers: that under a box, or the value itself
-abbrev pub variable_of : List Op → ℕ → ℕ
-variable_of gs n = variable_given (slice_get gs n) n
+abbrev pub held_at : List Op → ℕ → Option ValueId
+held_at gs n = held_given (slice_get gs n) n
+
+-- the variable of what the value holds, among those of the earlier values; a value that holds nothing is a variable of its own
+abbrev pub variable_under : Option ValueId → ℕ → List ℕ → ℕ
+variable_under (Some v) n variables = slice_index_or variables v.number n
+variable_under None n variables = n
+
+abbrev pub variable_after : List Op → ℕ → List ℕ → ℕ
+variable_after gs n variables = variable_under (held_at gs n) n variables
+
+-- the declare of the variable to which this value refers: that under all boxes, however many, or the value itself
+unfoldable pub variable_of : List Op → ℕ → ℕ
+variable_of gs = entry_at (variable_after gs)

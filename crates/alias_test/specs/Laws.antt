@@ -1,10 +1,12 @@
 -- What the relation of two designators comes to, and what each designator of a module has.
-use Rattle.std.specs.Prelude.{◌≡◌, true, List, length, ℤ, slice_get}
+use Rattle.std.specs.Prelude.{◌≡◌, Bool, true, false, List, length, Option, Some, None, ℤ, slice_get}
 use Rattle.std.specs.List.{Contains}
 use Rattle.hlfir_ops.specs.declared.op.ValueId.{ValueId}
+use Rattle.hlfir_ops.specs.declared.op.Op.{Op}
 use Rattle.hlfir_ops.specs.declared.op.Module.{Module}
 use Rattle.hlfir_ops.specs.RulesValues.{kind_at, is_target, values_of}
 use Rattle.hlfir_ops.specs.RulesForms.{rank_of_kind}
+use Rattle.hlfir_ops.specs.RulesStatements.{declares}
 use Rattle.hlfir_ops.specs.Rules.{KeepsRules}
 use Rattle.alias_test.specs.declared.designator.Relation.TheVariants.{Same, Disjoint}
 use Rattle.alias_test.specs.declared.designator.Designator.{Designator}
@@ -31,3 +33,14 @@ HasDimensions m d = length d.forms ≡ rank_of_kind (kind_given (slice_get (give
 
 abbrev pub EachHasItsDimensions : Module → Type 0
 EachHasItsDimensions m = KeepsRules m → (v : ValueId) → IsDesignator m v → HasDimensions m (designator_at (givers_of m.ops) v.number)
+
+abbrev pub is_declared : Option Op → Bool
+is_declared (Some op) = declares op
+is_declared None = false
+
+-- A declare gives its variable.
+abbrev pub IsOfADeclare : Module → Designator → Type 0
+IsOfADeclare m d = is_declared (slice_get (givers_of m.ops) d.var) ≡ true
+
+abbrev pub EachIsOfADeclare : Module → Type 0
+EachIsOfADeclare m = KeepsRules m → (v : ValueId) → IsDesignator m v → IsOfADeclare m (designator_at (givers_of m.ops) v.number)

@@ -5,3 +5,4 @@ pub mod Normal
 pub mod Relations
 pub mod Runs
 pub mod Symbols
+pub mod Tables

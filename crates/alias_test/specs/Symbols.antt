@@ -1,5 +1,5 @@
 -- The trees of scalar values, in postfix order.
-use Rattle.std.specs.Prelude.{ℕ, zero, suc, Bool, true, false, nat_lt, if◌then◌else◌, List, [], ◌∷◌, ◌++◌, Option, Some, None, ℤ, slice_get, slice_index_or}
+use Rattle.std.specs.Prelude.{ℕ, Bool, true, false, nat_lt, if◌then◌else◌, List, [], ◌∷◌, ◌++◌, Option, Some, None, ℤ, slice_get, slice_index_or}
 use Rattle.std.specs.List.{list_all, flat_map}
 use Rattle.ws_base.specs.Numbers.{is_true}
 use Rattle.ws_base.specs.declared.op.UnOp.TheVariants.{Minus, Not}
@@ -20,6 +20,7 @@ use Rattle.hlfir_ops.specs.declared.op.Op.{Op, out-Op}
 use Rattle.alias_test.specs.declared.designator.Sym.{Sym}
 use Rattle.alias_test.specs.declared.designator.Sym.TheVariants.{Number, Truth, Scalar, Index, Unary, Binary, Kept, Size, Bound, Other}
 use Rattle.alias_test.specs.Givers.{variable_of}
+use Rattle.alias_test.specs.Tables.{entry_at}
 
 abbrev pub Tree : Type 0
 Tree = List Sym
@@ -124,16 +125,9 @@ parts_at gs n = parts_given gs n (slice_get gs n)
 abbrev pub tree_after : List Op → ℕ → List Tree → Tree
 tree_after gs n trees = flat_map (λ v. slice_index_or trees v.number []) (parts_at gs n) ++ symbol_at gs n ∷ []
 
-abbrev pub with_tree : List Op → ℕ → List Tree → List Tree
-with_tree gs n trees = trees ++ tree_after gs n trees ∷ []
-
--- the trees of the first values, as many as the number says, each from those before it
-abbrev pub trees_before : List Op → ℕ → List Tree
-trees_before gs zero = []
-trees_before gs (suc n) = with_tree gs n (trees_before gs n)
-
+-- each tree from those of the earlier values
 unfoldable pub tree_at : List Op → ℕ → Tree
-tree_at gs n = tree_after gs n (trees_before gs n)
+tree_at gs = entry_at (tree_after gs)
 
 -- the trees of these values, one after the other
 unfoldable pub trees_at : List Op → List ValueId → Tree

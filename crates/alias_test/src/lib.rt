@@ -16,10 +16,12 @@ mod table;
 #[cfg(test)]
 mod tests;
 mod tree;
+mod variable;
 
 pub use designator::{Designator, Form, FormList, Relation, Sym, SymList};
 pub use laws::{
-    disjoint_have_no_element_in_common, each_has_its_dimensions, same_have_the_same_elements,
+    disjoint_have_no_element_in_common, each_has_its_dimensions, each_is_of_a_declare,
+    same_have_the_same_elements,
 };
 pub use normal_form::{designator_in, designator_of};
 pub use relating::relate;

@@ -12,9 +12,9 @@ ghost use Rattle.alias_test.specs.Symbols.{trees_at};
 
 use crate::constants::{constant_at, dim_at, triplet_at, triplet_of, upper_of};
 use crate::designator::{Designator, Form, FormList, Sym, SymList};
-use crate::symbol::variable_of;
 use crate::table::{giver, givers};
 use crate::tree::trees_of;
+use crate::variable::variable_of;
 use hlfir_ops::{Module, Op, SubKind, ValueId, ValueKind, What};
 use sqlite_items::Items;
 use std::alloc::{AllocError, Global};

@@ -3,35 +3,13 @@
 ghost use Rattle.std.specs.Prelude.{◌≡◌, map, slice_get};
 ghost use Rattle.hlfir_ops.specs.declared.op.Op.{out-Op};
 ghost use Rattle.alias_test.specs.Givers.{ops_at};
-ghost use Rattle.alias_test.specs.Givers as givers;
 ghost use Rattle.alias_test.specs.Symbols as symbols;
 
 use crate::designator::Sym;
 use crate::table::giver;
+use crate::variable::variable_of;
 use hlfir_ops::{BoundWord, Elem, Op, ValueBinary, ValueId, ValueKind, ValueUnary, What};
 use ws_base::{BinOp, UnOp};
-
-/// The declare of the variable to which this value refers.
-pub fn variable_of(table: &[&Op], v: ValueId) -> u32
-    ensures { result ≡ givers.variable_of (ops_at table.now) v.number }
-{
-    match giver(table, v) {
-        Some(op) => under_box(op, v),
-        None => v.number,
-    }
-}
-
-fn under_box(op: &Op, v: ValueId) -> u32
-    ensures { result ≡ givers.under_box (out-Op op.now).what (out-Op op.now).operands v.number }
-{
-    match &op.what {
-        What::Boxed => match op.operands.as_slice() {
-            [declare, ..] => declare.number,
-            [] => v.number,
-        },
-        _ => v.number,
-    }
-}
 
 fn constant_symbol(value: i64, kind: Option<ValueKind>) -> Sym
     ensures { result ≡ symbols.constant_symbol value kind }

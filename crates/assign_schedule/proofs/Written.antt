@@ -24,7 +24,7 @@ use Rattle.assign_schedule.specs.Saved.{saved}
 
 -- what lets the decisions compute on a module that is written out
 unfoldable pub ops_open : Unit {0}
-unfolding trees_open Rattle.alias_test.specs.Relations.constants_of Rattle.alias_test.specs.Relations.same_range Rattle.alias_test.specs.Relations.relation Rattle.alias_test.specs.Normal.designator_at
+unfolding trees_open Rattle.alias_test.specs.Relations.constants_of Rattle.alias_test.specs.Relations.same_range Rattle.alias_test.specs.Relations.relation Rattle.alias_test.specs.Normal.designator_at Rattle.alias_test.specs.Givers.variable_of
     Rattle.alias_test.specs.Symbols.trees_at Rattle.alias_test.specs.Symbols.tree_at Rattle.alias_test.specs.Symbols.parts_at Rattle.alias_test.specs.Symbols.symbol_of Rattle.alias_test.specs.Symbols.symbol_at
     Rattle.hlfir_ops.specs.declared.op.Op.TheViews.out-Op Rattle.hlfir_ops.specs.declared.op.Op.TheViews.out-Region
     Rattle.hlfir_ops.specs.declared.op.Op.TheBlock.shown-the_row-Op-1 denote.Hole.Carrier.out denote.Hole.Carrier.shown

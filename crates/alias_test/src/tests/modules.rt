@@ -18,6 +18,12 @@ use ws_space::{Dim, Shape, Triplet};
 
 const INTEGER: ValueKind = ValueKind::Scalar(Elem::I32);
 
+/// An allocatable of rank 1.
+const VECTOR: ValueKind = ValueKind::Allocatable {
+    elem: Elem::I32,
+    rank: 1,
+};
+
 fn ids(alloc: Global, numbers: &[u32]) -> Result<ValueIdList, AllocError> {
     let mut ids = Items::new(alloc);
     for number in numbers {
@@ -225,5 +231,79 @@ fn a_whole_array(rt: HostRuntime) -> Result<(), Fail> {
     assert_eq!(rt; a.var, 0);
     assert_eq!(rt; only_range(&a), Some(Triplet { l: 1, u: 5, s: 1 }));
     assert_eq!(rt; relate(&a, &a), Relation::Same);
+    Ok(())
+}
+
+/// A box of the value of this number.
+fn boxed(alloc: Global, build: &mut Builder, of: u32) -> Result<(), AllocError>
+    ensures { OnOk result (build.new.around ≡ build.old.around) }
+{
+    add(alloc, build, What::Boxed, &[of], Some(VECTOR))
+}
+
+/// `p` of value 0, its box and the box of this box; then 1, 2, 3 and 4.
+fn boxes(alloc: Global, build: &mut Builder) -> Result<(), AllocError>
+    ensures { OnOk result (build.new.around ≡ build.old.around) }
+{
+    let name = Name::from_str(alloc, "p")?;
+    add(alloc, build, What::Declare(name), &[], Some(VECTOR))?;
+    boxed(alloc, build, 0)?;
+    boxed(alloc, build, 1)?;
+    constant(alloc, build, 1)?;
+    constant(alloc, build, 2)?;
+    constant(alloc, build, 3)?;
+    constant(alloc, build, 4)
+}
+
+/// The section by these values: what it is of, and its triplet.
+fn section(alloc: Global, build: &mut Builder, numbers: &[u32; 4]) -> Result<(), AllocError>
+    ensures { OnOk result (build.new.around ≡ build.old.around) }
+{
+    let subs = SubKindList::from_slice(alloc, &[SubKind::Range])?;
+    let kind = ValueKind::Section {
+        elem: Elem::I32,
+        rank: 1,
+    };
+    add(alloc, build, What::Designate(subs), numbers, Some(kind))
+}
+
+/// `p(1:2)` by its box, which is value 7; then by the box of this box `p(1:2)`, `p(2:3)` and `p(3:4)`.
+fn nested(alloc: Global) -> Result<Module, AllocError> {
+    let mut build = Builder::new(alloc, Name::from_str(alloc, "main")?);
+    boxes(alloc, &mut build)?;
+    section(alloc, &mut build, &[1, 3, 4, 3])?;
+    section(alloc, &mut build, &[2, 3, 4, 3])?;
+    section(alloc, &mut build, &[2, 4, 5, 3])?;
+    section(alloc, &mut build, &[2, 5, 6, 3])?;
+    Ok(build.finish())
+}
+
+/// How the values of these numbers lie to one another. None where they have different numbers of dimensions.
+fn lie(
+    alloc: Global,
+    table: &[&Op],
+    first: u32,
+    second: u32,
+) -> Result<Option<Relation>, AllocError> {
+    let a = designator_in(alloc, table, ValueId { number: first })?;
+    let b = designator_in(alloc, table, ValueId { number: second })?;
+    if a.forms.len() != b.forms.len() {
+        return Ok(None);
+    }
+    Ok(Some(relate(&a, &b)))
+}
+
+#[test]
+fn sections_by_a_box_of_a_box(rt: HostRuntime) -> Result<(), Fail> {
+    let alloc = rt.alloc();
+    let module = nested(alloc)?;
+    let table = givers(alloc, &module)?;
+    let ops = table.as_slice();
+    let whole = designator_in(alloc, ops, ValueId { number: 2 })?;
+    assert_eq!(rt; whole.var, 0);
+    assert_eq!(rt; lie(alloc, ops, 1, 2)?, Some(Relation::Same));
+    assert_eq!(rt; lie(alloc, ops, 7, 8)?, Some(Relation::Same));
+    assert_eq!(rt; lie(alloc, ops, 7, 9)?, Some(Relation::May));
+    assert_eq!(rt; lie(alloc, ops, 7, 10)?, Some(Relation::Disjoint));
     Ok(())
 }
