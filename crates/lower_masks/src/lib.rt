@@ -1,6 +1,6 @@
 //! The module of a source, as one that keeps the rules of its ops. `lower_constructs` defines it.
 #![tactic(auto)]
 
-mod lower;
+mod lowering;
 
-pub use lower::lower;
+pub use lowering::lower;
