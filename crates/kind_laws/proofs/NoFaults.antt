@@ -17,6 +17,11 @@ unfolding when
 not_broken true line kind e = cc
 not_broken false line kind e = refl
 
+-- this rule is broken
+pub broken : {P : Type 0} (b : Bool) (line : ℕ) (kind : RefusalKind) → b ≡ true → when b line kind ≡ [] → P
+broken true line kind h e = absurd (true≢false (not_broken true line kind e))
+broken false line kind h e = cc
+
 -- this rule is always broken
 pub impossible : {P : Type 0} (line : ℕ) (kind : RefusalKind) → when true line kind ≡ [] → P
 impossible line kind e = absurd (true≢false (not_broken true line kind e))
@@ -25,6 +30,10 @@ impossible line kind e = absurd (true≢false (not_broken true line kind e))
 pub looked_into : (refused : Bool) (line : ℕ) (kind : RefusalKind) (xs : List Refusal) → (if refused then when true line kind else xs) ≡ [] → xs ≡ []
 looked_into true line kind xs e = impossible line kind e
 looked_into false line kind xs e = e
+
+pub allowed : (right : Bool) (line : ℕ) (kind : RefusalKind) (xs : List Refusal) → (if right then xs else when true line kind) ≡ [] → xs ≡ []
+allowed true line kind xs e = e
+allowed false line kind xs e = impossible line kind e
 
 pub left_false : (b c : Bool) → (b || c) ≡ false → b ≡ false
 left_false true c h = h

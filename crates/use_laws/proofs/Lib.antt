@@ -1,0 +1,17 @@
+pub mod Counting
+pub mod Defined
+pub mod Uses
+pub mod Walking
+pub mod Standing
+pub mod Holding
+pub mod Operations
+pub mod References
+pub mod Clean
+pub mod Values
+pub mod Statements
+pub mod Parts
+pub mod Constructs
+pub mod Declares
+pub mod Programs
+pub mod Once
+pub mod Accepted
