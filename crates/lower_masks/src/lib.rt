@@ -1,6 +1,8 @@
-//! The module of a source, as one that keeps the rules of its ops. `lower_constructs` defines it.
+//! The module of a source, as one that keeps the rules of its ops. `lower_constructs` defines it, and `specs/Laws.antt` says what holds of it.
 #![tactic(auto)]
 
+mod laws;
 mod lowering;
 
+pub use laws::every_module_keeps_the_rules;
 pub use lowering::lower;

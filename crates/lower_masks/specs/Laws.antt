@@ -1,0 +1,8 @@
+-- The module of a source keeps the rules of its ops.
+use Rattle.ws_tree.specs.declared.stmt.Tree.{Tree}
+use Rattle.ws_sema.specs.Checks.{IsAccepted}
+use Rattle.hlfir_ops.specs.Rules.{KeepsRules}
+use Rattle.lower_constructs.specs.Modules.{lowered}
+
+abbrev pub EveryModuleKeepsTheRules : Type 0
+EveryModuleKeepsTheRules = (t : Tree) → IsAccepted t → KeepsRules (lowered t)
