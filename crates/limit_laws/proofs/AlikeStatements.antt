@@ -1,5 +1,5 @@
 -- Tables in which names have the same types give statements the same pieces.
-use Rattle.std.proofs.Common.{◌≡◌, refl, sym, ap, ◌∙◌, ℕ, Bool, true, false, List, [], ◌∷◌, ◌++◌, Option, Some, None}
+use Rattle.std.proofs.Common.{◌≡◌, refl, ap, Bool, true, false, List, [], ◌∷◌, ◌++◌, Option, Some, None}
 use Rattle.std.specs.List.{flat_map}
 use mathlib.Core.Former.{Count}
 use Rattle.ws_tree.specs.declared.expr.Expr.{Expr}
@@ -9,15 +9,14 @@ use Rattle.ws_tree.specs.declared.stmt.Index.{Index}
 use Rattle.ws_tree.specs.declared.stmt.Part.{Part}
 use Rattle.ws_tree.specs.declared.stmt.Body.{Body}
 use Rattle.ws_tree.specs.declared.stmt.Body.TheVariants.{Assign, Masked', Forall', Loop', Allocate, Deallocate, Read, Shared', Unsupported, TooDeep}
-use Rattle.ws_tree.specs.declared.stmt.Else.{Else, Else'}
+use Rattle.ws_tree.specs.declared.stmt.Else.{Else'}
 use Rattle.ws_tree.specs.Trees.{Stmts, end_stmts, more_stmts, Elses, end_elses, more_elses}
 use Rattle.ws_types.specs.declared.types.Row.{Row}
 use Rattle.ws_types.specs.declared.types.Standing.TheVariants.{Index as Index', Barred}
 use Rattle.ws_types.specs.Tables.{barred, inner}
-use Rattle.ws_counts.specs.declared.tally.Piece.{Piece}
 use Rattle.ws_counts.specs.declared.tally.Piece.TheVariants as piece
 use Rattle.ws_counts.specs.Pieces as p
-use Rattle.ws_counts.specs.Limits.{loop_pieces, bound_pieces, part_pieces, allocate_pieces, read_pieces}
+use Rattle.ws_counts.specs.Limits.{loop_pieces, bound_pieces, allocate_pieces, read_pieces}
 use Rattle.limit_laws.proofs.Alike.{Alike, indexes-alike, both-alike, pieces-alike, given-alike}
 
 mask-alike : (t u : List Row) → Alike t u → (inside : Bool) (e : Expr) → p.mask_pieces t inside e ≡ p.mask_pieces u inside e

@@ -1,66 +1,46 @@
 -- What is bounded by the pieces of an expression.
-use Rattle.std.proofs.Common.{◌≡◌, refl, sym, ap, ◌∙◌, subst, ℕ, suc, ◌+◌, ◌*◌, ◌≤◌, ◌<◌, ◌==◌, not, nat_le, nat_eq, Bool, true, false, List, [], ◌∷◌, ◌++◌, length, map, Option, Some, None, arith, if◌then◌else◌}
+use Rattle.std.proofs.Common.{◌≡◌, refl, ap, ℕ, suc, ◌+◌, ◌*◌, ◌≤◌, ◌<◌, ◌==◌, not, nat_le, nat_eq, Bool, true, false, List, [], ◌∷◌, ◌++◌, length, Option, Some, None, arith, if◌then◌else◌}
 use Rattle.std.specs.Prelude.{pos}
-use Rattle.std.specs.List.{flat_map}
 use Rattle.std.proofs.lemmas.Bool.{ltb-false, eqb-true}
-use Rattle.std.proofs.lemmas.List.{length-append, length-map}
+use Rattle.std.proofs.lemmas.List.{length-map}
 use mathlib.Core.Former.{Count}
 use Rattle.ws_base.specs.declared.name.Name.{Name}
-use Rattle.ws_base.specs.declared.op.CallWord.{CallWord}
-use Rattle.ws_base.specs.declared.op.CallWord.TheVariants as word
 use Rattle.ws_base.specs.declared.refusal.RefusalKind.TheVariants as refusal
-use Rattle.ws_tree.specs.declared.expr.Expr.{Expr}
-use Rattle.ws_tree.specs.declared.expr.Expr.TheVariants.{Number, TooWide, TooDeep, Truth, Named, Part', Call', Vector'}
-use Rattle.ws_tree.specs.declared.expr.Sub.{Sub}
-use Rattle.ws_tree.specs.declared.expr.Sub.TheVariants as sub
-use Rattle.ws_tree.specs.Trees.{Exprs, end_exprs, more_exprs, Subs, end_subs, more_subs, Given, absent, given, paren, unary, binary}
-use Rattle.ws_tree.specs.Grammatical.{IsExpr, AreExprs, AreSubs, IsGiven, HasSubs}
+use Rattle.ws_tree.specs.Trees.{Exprs, end_exprs, more_exprs, Subs, end_subs, more_subs}
+use Rattle.ws_tree.specs.Grammatical.{HasSubs}
 use Rattle.ws_types.specs.declared.constant.Constancy.{Constancy}
 use Rattle.ws_types.specs.declared.constant.Constancy.TheVariants.{Value as Value', NoValue, NotConstant}
 use Rattle.ws_types.specs.declared.types.Arguments.{Arguments}
 use Rattle.ws_types.specs.declared.types.Standing.{Standing}
 use Rattle.ws_types.specs.declared.types.Standing.TheVariants.{Declared, Active, Index, Barred}
-use Rattle.ws_types.specs.declared.types.Row.{Row}
-use Rattle.ws_types.specs.Constants.{constancy}
-use Rattle.ws_types.specs.Names.{standing_of, name_type, name_faults}
+use Rattle.ws_types.specs.Names.{name_type, name_faults}
 use Rattle.ws_types.specs.Operations.{part_faults, vector_faults}
 use Rattle.ws_types.specs.Operations as types
-use Rattle.ws_types.specs.Expressions.{listed, how_many, typed, faults, all_faults, subs_faults, sub_faults, given_faults}
+use Rattle.ws_types.specs.Expressions.{listed, how_many}
 use Rattle.ws_counts.specs.declared.tally.Piece.{Piece}
-use Rattle.ws_counts.specs.declared.tally.Piece.TheVariants as piece
 use Rattle.ws_counts.specs.Counts.{parts_in, reductions_in, wholes_in}
-use Rattle.ws_counts.specs.Pieces as p
-use Rattle.hlfir_ops.specs.declared.kinds.Elem.TheVariants.{I32, I1}
+use Rattle.hlfir_ops.specs.declared.kinds.Elem.TheVariants.{I32}
 use Rattle.hlfir_ops.specs.declared.kinds.ValueKind.TheVariants.{Scalar}
 use Rattle.hlfir_ops.specs.declared.what.BoundWord.{BoundWord}
-use Rattle.hlfir_ops.specs.declared.what.BoundWord.TheVariants.{Lower, Upper}
-use Rattle.hlfir_ops.specs.declared.what.ValueBinary.{ValueBinary}
-use Rattle.hlfir_ops.specs.declared.what.ValueBinary.TheVariants as op
 use Rattle.hlfir_ops.specs.declared.what.What.TheVariants as what
 use Rattle.hlfir_ops.specs.declared.op.ValueId.{ValueId}
 use Rattle.hlfir_ops.specs.Numbers.{numbers_of}
 use Rattle.hlfir_ops.specs.RulesValues.{Value, rank_of, is_whole, value_at}
 use Rattle.hlfir_ops.specs.RulesLimits.{item_limit}
 use Rattle.lower_assign.specs.declared.operand.Operand.{Operand}
-use Rattle.lower_assign.specs.declared.operand.Subscript.{Subscript}
-use Rattle.lower_assign.specs.declared.operand.Subscript.TheVariants.{One, Range, Vector}
+use Rattle.lower_assign.specs.declared.operand.Subscript.TheVariants.{One, Vector}
 use Rattle.lower_assign.specs.Scopes.{Scope}
-use Rattle.lower_assign.specs.Lowerings.{Lowering, Lowered, done, ◌>>=◌ as ◌then◌, scoped, giving}
-use Rattle.lower_assign.specs.Operations.{constant, values_of, binary_of, binary_operation, in_parentheses, unary_operation, joined, call_on, vector}
-use Rattle.lower_assign.specs.References.{nothing, or_nothing, variable_of, reference, loaded, named, subscript_of, sub_values, bound, designated, inquiry}
-use Rattle.lower_assign.specs.Values.{constant_or, folded, part_of, value, values, nested, subscripts, subscript, given_or}
-use Rattle.small_laws.proofs.NoFaults.{none_first, none_after, not_broken, impossible, allowed}
-use Rattle.kind_laws.specs.Standing.{EntryIsKnown, NameIsKnown, Knows}
-use Rattle.kind_laws.specs.Found.{Holds, ScopeIsFound}
-use Rattle.kind_laws.specs.Laws.{TypesAreKnown, KindsAreTypes, ValuesAreFound}
-use Rattle.limit_laws.specs.Costs.{total, heavy, size, reduces, wholes, wholes_among, one_if, Costs, slack, IsProper, Priced}
-use Rattle.limit_laws.proofs.Costing.{Spends, costs-weaker, spends-done, spends-then}
-use Rattle.limit_laws.proofs.Held.{then-first, then-rest, value-there}
-use Rattle.limit_laws.proofs.Operations.{priced-weaker, priced-costs, priced-constant, priced-binary, priced-unary, priced-parentheses, priced-joined, slack-few}
-use Rattle.limit_laws.proofs.References.{IsVariable, fits-variable, standing-variable, whole_by_kind, spends-reference, priced-then, priced-named, priced-loaded, priced-bound, priced-inquiry, priced-designated, reference-whole}
-use Rattle.limit_laws.proofs.Pieces.{parts-append, reductions-append, wholes-append, call-counts, subscript-counts}
-use Rattle.limit_laws.proofs.Calls.{priced-call_on, priced-vector}
-use Rattle.limit_laws.proofs.Wholes.{scalar-apart, whole-known}
+use Rattle.lower_assign.specs.Lowerings.{Lowering, Lowered, done, ◌>>=◌ as ◌then◌, giving}
+use Rattle.lower_assign.specs.Operations.{constant, values_of}
+use Rattle.lower_assign.specs.References.{variable_of, subscript_of, sub_values, bound}
+use Rattle.lower_assign.specs.Values.{constant_or, value, values}
+use Rattle.small_laws.proofs.NoFaults.{none_first, none_after, not_broken, impossible}
+use Rattle.kind_laws.specs.Standing.{EntryIsKnown, NameIsKnown}
+use Rattle.kind_laws.specs.Found.{Holds}
+use Rattle.limit_laws.proofs.Costs.{total, heavy, size, reduces, wholes, wholes_among, one_if, Costs, IsProper, Priced}
+use Rattle.limit_laws.proofs.Held.{value-there}
+use Rattle.limit_laws.proofs.Operations.{priced-weaker, priced-constant}
+use Rattle.limit_laws.proofs.References.{IsVariable, fits-variable, whole_by_kind, priced-bound}
 
 -- ---- what is bounded by pieces
 

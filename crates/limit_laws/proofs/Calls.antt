@@ -1,26 +1,22 @@
 -- Costs of calls and constructors.
-use Rattle.std.proofs.Common.{◌≡◌, refl, sym, ap, ◌∙◌, subst, ℕ, suc, ◌+◌, ◌*◌, ◌≤◌, ◌<◌, nat_le, Bool, true, false, List, [], ◌∷◌, ◌++◌, length, map, Option, Some, None, arith}
+use Rattle.std.proofs.Common.{◌≡◌, refl, ℕ, ◌+◌, ◌*◌, nat_le, true, List, length, arith}
 use Rattle.std.proofs.lemmas.List.{length-map}
 use Rattle.ws_base.specs.declared.op.CallWord.{CallWord}
 use Rattle.ws_base.specs.declared.op.CallWord.TheVariants as word
 use Rattle.ws_types.specs.Operations as types
-use Rattle.hlfir_ops.specs.declared.kinds.Elem.{Elem}
 use Rattle.hlfir_ops.specs.declared.kinds.ValueKind.TheVariants.{Scalar, Array}
-use Rattle.hlfir_ops.specs.declared.what.ValueUnary.TheVariants as unary
-use Rattle.hlfir_ops.specs.declared.what.ValueBinary.TheVariants as binary
 use Rattle.hlfir_ops.specs.declared.what.Reduction.{Reduction}
 use Rattle.hlfir_ops.specs.declared.what.What.TheVariants as what
-use Rattle.hlfir_ops.specs.declared.op.ValueId.{ValueId}
 use Rattle.hlfir_ops.specs.RulesValues.{Value}
 use Rattle.hlfir_ops.specs.RulesForms.{total_elem}
 use Rattle.hlfir_ops.specs.RulesLimits.{item_limit}
 use Rattle.lower_assign.specs.declared.operand.Operand.{Operand}
 use Rattle.lower_assign.specs.Scopes.{Scope}
 use Rattle.lower_assign.specs.Lowerings.{giving}
-use Rattle.lower_assign.specs.Operations.{values_of, reduction_of, what_of, first_elem, call_elem, total, total_or, operation, call_on, vector}
-use Rattle.limit_laws.specs.Costs.{Priced, one_if}
+use Rattle.lower_assign.specs.Operations.{values_of, what_of, first_elem, call_elem, total, operation, call_on, vector}
+use Rattle.limit_laws.proofs.Costs.{Priced, one_if}
 use Rattle.limit_laws.proofs.Costing.{costs-weaker, spends-giving}
-use Rattle.limit_laws.proofs.Operations.{IsPlain, priced, priced-weaker, priced-operation}
+use Rattle.limit_laws.proofs.Operations.{IsPlain, priced, priced-operation}
 
 call-plain : (w : CallWord) → IsPlain (what_of w)
 call-plain word.Abs = record { light = λ os. refl; reduces = λ os. refl; wholes = λ us os. refl }

@@ -1,12 +1,12 @@
 -- What ops of expressions add to the count of a statement.
-use Rattle.std.proofs.Common.{◌≡◌, refl, sym, ap, ◌∙◌, subst, ℕ, suc, ◌+◌, ◌*◌, ◌≤◌, Bool, true, false, List, [], ◌∷◌, ◌++◌, length, Option, arith, if◌then◌else◌}
+use Rattle.std.proofs.Common.{◌≡◌, refl, ap, ◌∙◌, ℕ, suc, ◌+◌, ◌*◌, ◌≤◌, Bool, true, false, List, [], ◌∷◌, ◌++◌, length, arith, if◌then◌else◌}
 use Rattle.hlfir_ops.specs.declared.what.What.{What}
 use Rattle.hlfir_ops.specs.declared.what.What.TheVariants as what
 use Rattle.hlfir_ops.specs.declared.op.ValueId.{ValueId}
 use Rattle.hlfir_ops.specs.declared.op.Op.{Op, out-Op}
 use Rattle.hlfir_ops.specs.RulesValues.{Value, is_whole, value_at}
 use Rattle.hlfir_ops.specs.RulesLimits.{Count, with_reduction, with_whole, with_wholes, counted_as, counted, counted_all, size_of}
-use Rattle.limit_laws.specs.Costs.{weight, sum_of, is_light, heavy, size, reduces, wholes, wholes_among, one_if}
+use Rattle.limit_laws.proofs.Costs.{sum_of, heavy, size, reduces, wholes, wholes_among, one_if}
 
 abbrev pub if_so : Bool → ℕ → ℕ
 if_so b n = if b then n else 0

@@ -1,5 +1,5 @@
 -- The declares of a source: they are found, at most 64, and small.
-use Rattle.std.proofs.Common.{◌≡◌, refl, sym, ap, ◌∙◌, subst, ℕ, suc, ◌+◌, ◌<◌, ◌≤◌, ◌&&◌, nat_lt, nat_le, Bool, true, false, List, [], ◌∷◌, ◌++◌, length, All, Option, Some, None, arith, if◌then◌else◌}
+use Rattle.std.proofs.Common.{◌≡◌, refl, ap, ◌∙◌, subst, ℕ, suc, ◌+◌, ◌<◌, ◌≤◌, nat_lt, nat_le, Bool, true, false, List, [], ◌∷◌, ◌++◌, length, All, Some, arith}
 use Rattle.std.specs.Prelude.{⊤}
 use Rattle.std.specs.List.{list_all}
 use Rattle.std.proofs.lemmas.Bool.{and_from}
@@ -8,17 +8,17 @@ use Rattle.std.proofs.lemmas.List.Folds.{list_all-append}
 use Rattle.std.proofs.lemmas.List.Elements.{All-nil, All-cons, All-head, All-tail}
 use Rattle.ws_tree.specs.declared.stmt.Decl.{Decl}
 use Rattle.ws_types.specs.declared.constant.Constant.{Constant}
-use Rattle.ws_sema.specs.Declarations.{name_limit, heading_faults, decls_faults, with_constant, constants_after}
+use Rattle.ws_sema.specs.Declarations.{heading_faults, decls_faults, with_constant}
 use Rattle.hlfir_ops.specs.declared.what.What.TheVariants as what
-use Rattle.hlfir_ops.specs.declared.op.Op.{Op, Op-F, out-Op, out-roll-Op}
+use Rattle.hlfir_ops.specs.declared.op.Op.{Op, Op-F, out-roll-Op}
 use Rattle.hlfir_ops.specs.declared.op.Region.{Region}
 use Rattle.hlfir_ops.specs.Trees.{op_of}
 use Rattle.hlfir_ops.specs.Numbers.{numbers_of}
-use Rattle.hlfir_ops.proofs.Numbered.{numbers_of-append, op_numbers-op_of}
+use Rattle.hlfir_ops.proofs.Numbered.{op_numbers-op_of}
 use Rattle.hlfir_ops.specs.RulesValues.{Value}
 use Rattle.hlfir_ops.specs.RulesPlaces.{Around, sites_of}
 use Rattle.hlfir_ops.specs.RulesStatements.{declares, is_declare}
-use Rattle.hlfir_ops.specs.RulesLimits.{declares_in, declare_limit, is_small}
+use Rattle.hlfir_ops.specs.RulesLimits.{declares_in, declare_limit}
 use Rattle.lower_assign.specs.declared.names.Variable.{Variable}
 use Rattle.lower_assign.specs.Scopes.{Scope}
 use Rattle.lower_assign.specs.Lowerings.{Lowering, done, ◌>>=◌ as ◌then◌, in_turn, giving}
@@ -27,7 +27,7 @@ use Rattle.lower_constructs.specs.Modules.{declaration}
 use Rattle.small_laws.proofs.NoFaults.{none_first, none_after, not_broken}
 use Rattle.kind_laws.specs.Found.{Holds, DeclareIsFound}
 use Rattle.kind_laws.proofs.Sited.{sites_of-append, defined_by}
-use Rattle.limit_laws.specs.Costs.{one_if}
+use Rattle.limit_laws.proofs.Costs.{one_if}
 use Rattle.limit_laws.proofs.Held.{holds-first, holds-rest, value-there}
 use Rattle.limit_laws.proofs.Passing.{fits_there, passing-at, regions-none}
 use Rattle.limit_laws.proofs.Shapes.{HasSmallKind}

@@ -1,5 +1,5 @@
 -- FORALL: its mask, its assignments, and the whole of it.
-use Rattle.std.proofs.Common.{◌≡◌, refl, sym, ap, ◌∙◌, subst, ℕ, suc, ◌+◌, ◌*◌, ◌<◌, ◌≤◌, not, ◌&&◌, Bool, true, false, List, [], ◌∷◌, ◌++◌, length, map, All, Option, Some, None, arith, append-nil, append_assoc}
+use Rattle.std.proofs.Common.{◌≡◌, refl, sym, subst, ℕ, ◌+◌, ◌*◌, not, ◌&&◌, true, List, [], ◌∷◌, ◌++◌, length, map, Option, Some, None, arith, append-nil, append_assoc}
 use Rattle.std.specs.Prelude.{⊤}
 use mathlib.Core.Former.{Count}
 use Rattle.ws_base.specs.declared.name.Name.{Name}
@@ -9,25 +9,23 @@ use Rattle.ws_tree.specs.declared.stmt.Index.{Index}
 use Rattle.ws_tree.specs.declared.stmt.Body.{Body}
 use Rattle.ws_tree.specs.declared.stmt.Body.TheVariants.{Assign, Masked', Forall', Loop', Allocate, Deallocate, Read, Shared', Unsupported, TooDeep}
 use Rattle.ws_tree.specs.Trees.{Stmts, end_stmts, more_stmts}
-use Rattle.ws_tree.specs.Grammatical.{IsSide, IsOptional, IsIndex, IsHeader}
+use Rattle.ws_tree.specs.Grammatical.{IsSide, IsOptional, IsHeader}
 use Rattle.ws_types.specs.declared.types.Row.{Row}
 use Rattle.ws_types.specs.Tables.{barred, inner}
-use Rattle.ws_counts.specs.declared.tally.Piece.{Piece}
-use Rattle.ws_counts.specs.declared.tally.Piece.TheVariants as piece
 use Rattle.ws_counts.specs.Pieces as p
 use Rattle.ws_counts.specs.Counts.{parts_in, reductions_in, wholes_in}
 use Rattle.ws_sema.specs.declared.within.Within.TheVariants as within
-use Rattle.ws_sema.specs.Statements.{body_faults, block_faults, header_faults, forall_mask_faults, forall_header_faults}
+use Rattle.ws_sema.specs.Statements.{body_faults, block_faults, forall_mask_faults, forall_header_faults}
 use Rattle.hlfir_ops.specs.declared.what.What.{What}
 use Rattle.hlfir_ops.specs.declared.what.What.TheVariants as what
 use Rattle.hlfir_ops.specs.declared.op.Op.{Op}
 use Rattle.hlfir_ops.specs.declared.op.Region.{Region}
 use Rattle.hlfir_ops.specs.Trees.{op_of, region_of}
-use Rattle.hlfir_ops.specs.Numbers.{names_in, numbers_of, order_of, order_in}
+use Rattle.hlfir_ops.specs.Numbers.{numbers_of, order_of}
 use Rattle.hlfir_ops.specs.RulesValues.{Value, values_in, value_of_name}
 use Rattle.hlfir_ops.specs.RulesPlaces.{Around, around_in}
 use Rattle.lower_assign.specs.Scopes.{Scope, inside}
-use Rattle.lower_assign.specs.Lowerings.{Lowering, done, ◌>>=◌ as ◌then◌, ◌>>◌ as ◌after◌, scoped, statement_of, regions_from}
+use Rattle.lower_assign.specs.Lowerings.{Lowering, done, ◌>>=◌ as ◌then◌, ◌>>◌ as ◌after◌, scoped, statement_of}
 use Rattle.lower_assign.specs.Values.{value}
 use Rattle.lower_assign.specs.Statements.{yielded, all_yielded, is_whole_allocatable, assignment}
 use Rattle.lower_assign.specs.Lowerings.{acting}
@@ -38,17 +36,16 @@ use Rattle.kind_laws.specs.Found.{Holds, HoldsNames, ScopeIsFound}
 use Rattle.kind_laws.specs.Laws.{TypesAreKnown, KindsAreTypes, ValuesAreFound, index_names}
 use Rattle.kind_laws.proofs.ScopesKnown.{header_known, forall_known}
 use Rattle.kind_laws.proofs.ScopesFound.{inside_found}
-use Rattle.limit_laws.specs.Costs.{total, size, Costs}
+use Rattle.limit_laws.proofs.Costs.{total, size, Costs}
 use Rattle.limit_laws.proofs.Costing.{costs-weaker}
-use Rattle.limit_laws.proofs.Totals.{order-region}
 use Rattle.limit_laws.proofs.Held.{HoldsValues, then-first, then-rest, regions-there, region-there, names-there, rest-there}
-use Rattle.limit_laws.proofs.Passing.{Passing, RegionsPass, passing-light, regions-none, regions-more, passing-op}
+use Rattle.limit_laws.proofs.Passing.{RegionsPass, passing-light, regions-none, regions-more, passing-op}
 use Rattle.limit_laws.proofs.Tallying.{pieces_are}
-use Rattle.limit_laws.proofs.Walking.{Inner, First, Whole, first-inner, inner-none, first-masked, whole-forall}
+use Rattle.limit_laws.proofs.Walking.{First, Whole, first-inner, inner-none, first-masked, whole-forall}
 use Rattle.limit_laws.proofs.Scopes.{knows-moved, found-moved}
 use Rattle.limit_laws.proofs.Formed.{IsFormed, AreFormed}
-use Rattle.limit_laws.proofs.Sides.{SideCosts, side-costs, spends-all_yielded}
-use Rattle.limit_laws.proofs.Headers.{Headed, header-costs, indexes_are}
+use Rattle.limit_laws.proofs.Sides.{side-costs, spends-all_yielded}
+use Rattle.limit_laws.proofs.Headers.{header-costs, indexes_are}
 use Rattle.limit_laws.proofs.Wheres.{StandsIn, assign-first, assign-regions, inner-less, stands-none, stands-more, assign_passes}
 
 held_names : (vs : List Value) (n : ℕ) (names : List Name) → HoldsValues vs n (map value_of_name names) → HoldsNames vs n names

@@ -1,7 +1,6 @@
 -- Costs of the expressions of a header, DO, ALLOCATE or READ.
-use Rattle.std.proofs.Common.{◌≡◌, refl, sym, ap, ◌∙◌, subst, ℕ, suc, ◌+◌, ◌*◌, ◌≤◌, Bool, true, false, List, [], ◌∷◌, ◌++◌, length, All, Option, Some, None, arith}
-use Rattle.std.specs.Prelude.{⊤, pos}
-use Rattle.std.specs.List.{flat_map}
+use Rattle.std.proofs.Common.{◌≡◌, refl, ℕ, ◌+◌, ◌*◌, ◌≤◌, false, List, [], ◌∷◌, ◌++◌, length, All, Option, Some, None, arith}
+use Rattle.std.specs.Prelude.{pos}
 use Rattle.std.proofs.lemmas.List.{length-append}
 use Rattle.std.proofs.lemmas.List.Elements.{All-head, All-tail}
 use Rattle.ws_tree.specs.declared.expr.Expr.{Expr}
@@ -11,7 +10,6 @@ use Rattle.ws_types.specs.declared.types.Row.{Row}
 use Rattle.ws_types.specs.Expressions.{faults}
 use Rattle.ws_types.specs.Lists as lists
 use Rattle.ws_counts.specs.declared.tally.Piece.{Piece}
-use Rattle.ws_counts.specs.declared.tally.Piece.TheVariants as piece
 use Rattle.ws_counts.specs.Counts.{parts_in, reductions_in, wholes_in}
 use Rattle.ws_counts.specs.Pieces as p
 use Rattle.ws_sema.specs.Statements.{header_faults}
@@ -19,7 +17,6 @@ use Rattle.hlfir_ops.specs.declared.kinds.Elem.TheVariants.{I32}
 use Rattle.hlfir_ops.specs.declared.op.ValueId.{ValueId}
 use Rattle.hlfir_ops.specs.Numbers.{numbers_of}
 use Rattle.hlfir_ops.specs.RulesValues.{Value}
-use Rattle.lower_assign.specs.declared.operand.Operand.{Operand}
 use Rattle.lower_assign.specs.Scopes.{Scope}
 use Rattle.lower_assign.specs.Lowerings.{Lowering, Lowered, done, ◌>>=◌ as ◌then◌}
 use Rattle.lower_assign.specs.Values.{value}
@@ -30,7 +27,7 @@ use Rattle.small_laws.proofs.NoFaults.{none_first, none_after}
 use Rattle.kind_laws.specs.Standing.{Knows}
 use Rattle.kind_laws.specs.Found.{Holds, ScopeIsFound}
 use Rattle.kind_laws.specs.Laws.{TypesAreKnown, KindsAreTypes, ValuesAreFound}
-use Rattle.limit_laws.specs.Costs.{total, heavy, size, reduces, wholes, Costs}
+use Rattle.limit_laws.proofs.Costs.{total, heavy, size, reduces, wholes, Costs}
 use Rattle.limit_laws.proofs.Costing.{costs-weaker, spends-done, spends-then}
 use Rattle.limit_laws.proofs.Held.{then-first, then-rest}
 use Rattle.limit_laws.proofs.Operations.{priced-weaker, priced-costs, priced-constant}
@@ -102,6 +99,10 @@ module _ (types : TypesAreKnown) (kinds : KindsAreTypes) (found : ValuesAreFound
   unfolding done
   headed-none n = record { light = omega arith; size = omega arith; reductions = omega arith; wholes = omega arith }
 
+  triple-headed : (n : ℕ) (x : Index) → Costs vs (triple x.l x.u x.s s n).ops (24 + 27 * parts_in ((p.pieces t false false x.l ++ p.pieces t false false x.u) ++ p.given_pieces t false false x.s)) (reductions_in ((p.pieces t false false x.l ++ p.pieces t false false x.u) ++ p.given_pieces t false false x.s))
+      (wholes_in ((p.pieces t false false x.l ++ p.pieces t false false x.u) ++ p.given_pieces t false false x.s)) → Headed vs (triple x.l x.u x.s s n) (p.index_pieces t x)
+  triple-headed n x c = record { light = c.light; size = omega (arith, c.size, triple-length n x.l x.u x.s); reductions = omega (arith, c.reductions); wholes = omega (arith, c.wholes) }
+
   pub header-costs : (names : List Row) (line n : ℕ) (before is : List Index) → All IsIndex is → header_faults names t line before is ≡ [] → Holds vs n (triples is s n).ops → Headed vs (triples is s n) (p.indexes_pieces t is)
   unfolding triples
   header-costs names line n before [] i f h = headed-none n
@@ -110,13 +111,12 @@ module _ (types : TypesAreKnown) (kinds : KindsAreTypes) (found : ValuesAreFound
       let m = n + numbers_of (q s n).ops in
       let formed = All-head IsIndex x is i in
       let h1 = then-rest vs q (λ us. triples is then (λ bs. done (us ++ bs))) s n h in
-      let c = triple-costs line n x.l x.u x.s formed.0 formed.1 formed.2
+      headed-step n q (triples is) (p.index_pieces t x) (p.indexes_pieces t is)
+      (triple-headed n x (triple-costs line n x.l x.u x.s formed.0 formed.1 formed.2
       (none_first _ _ (none_after _ _ (none_first _ _ (none_first _ _ (none_first _ _ f)))))
       (none_first _ _ (none_after _ _ (none_first _ _ (none_first _ _ f))))
       (none_after _ _ (none_first _ _ f))
-      (then-first vs q (λ us. triples is then (λ bs. done (us ++ bs))) s n h) in
-      headed-step n q (triples is) (p.index_pieces t x) (p.indexes_pieces t is)
-      (record { light = c.light; size = omega (arith, c.size, triple-length n x.l x.u x.s); reductions = omega (arith, c.reductions); wholes = omega (arith, c.wholes) })
+      (then-first vs q (λ us. triples is then (λ bs. done (us ++ bs))) s n h)))
       (header-costs names line m (before ++ x ∷ []) is (All-tail IsIndex x is i) (none_after _ _ f) (then-first vs (triples is) (λ bs. done ((q s n).made ++ bs)) s m h1))
 
 -- ---- pieces of values

@@ -1,13 +1,12 @@
 -- The values of ops that stand one after another, among all values.
-use Rattle.std.proofs.Common.{◌≡◌, refl, sym, ap, ◌∙◌, subst, ℕ, zero, suc, ◌+◌, Bool, List, [], ◌∷◌, ◌++◌, length, map, Option, Some, None, append_assoc, append-nil, arith}
+use Rattle.std.proofs.Common.{◌≡◌, refl, sym, ap, ◌∙◌, subst, ℕ, suc, ◌+◌, List, [], ◌∷◌, ◌++◌, length, map, Option, Some, None, append_assoc, append-nil, arith}
 use Rattle.std.specs.Prelude.{slice_get}
 use Rattle.std.proofs.lemmas.List.{length-append, length-map}
-use Rattle.ws_base.specs.declared.name.Name.{Name}
 use Rattle.hlfir_ops.specs.declared.kinds.ValueKind.{ValueKind}
 use Rattle.hlfir_ops.specs.declared.what.What.{What}
 use Rattle.hlfir_ops.specs.declared.op.ValueId.{ValueId}
-use Rattle.hlfir_ops.specs.declared.op.Op.{Op, Op-F, out-Op, roll-Op, out-roll-Op}
-use Rattle.hlfir_ops.specs.declared.op.Region.{Region, out-Region, out-roll-Region}
+use Rattle.hlfir_ops.specs.declared.op.Op.{Op, Op-F, roll-Op, out-roll-Op}
+use Rattle.hlfir_ops.specs.declared.op.Region.{Region, out-roll-Region}
 use Rattle.hlfir_ops.specs.Trees.{op_of, region_of}
 use Rattle.hlfir_ops.specs.Numbers.{names_in, own_numbers, numbers_of}
 use Rattle.hlfir_ops.specs.RulesValues.{Value, own_values, op_values, values_of, values_in, value_at, value_of_name, source_of}

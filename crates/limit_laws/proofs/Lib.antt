@@ -1,3 +1,4 @@
+pub mod Costs
 pub mod Totals
 pub mod Costing
 pub mod Held

@@ -1,5 +1,5 @@
 -- The module of each accepted source keeps the limits.
-use Rattle.std.proofs.Common.{◌≡◌, refl, sym, ap, ◌∙◌, ℕ, ◌+◌, ◌≤◌, Bool, true, List, [], ◌∷◌, ◌++◌, length, All, arith, append-nil}
+use Rattle.std.proofs.Common.{◌≡◌, refl, sym, ap, ◌∙◌, ◌+◌, true, List, [], ◌++◌, arith, append-nil}
 use Rattle.std.specs.Prelude.{⊤}
 use Rattle.std.specs.List.{list_all}
 use Rattle.std.proofs.lemmas.Bool.{and_from}
@@ -14,7 +14,7 @@ use Rattle.hlfir_ops.specs.RulesValues.{Value, values_of}
 use Rattle.hlfir_ops.specs.RulesPlaces.{sites_of, outermost}
 use Rattle.lower_assign.specs.Scopes.{Scope, scope_at}
 use Rattle.lower_assign.specs.Lowerings.{Lowering, ◌>>=◌ as ◌then◌, in_turn}
-use Rattle.lower_assign.specs.Known.{names_of, variable_decls, numbered}
+use Rattle.lower_assign.specs.Known.{names_of, variable_decls}
 use Rattle.lower_constructs.specs.Modules.{declaration, statement_list, lowered}
 use Rattle.small_laws.proofs.NoFaults.{none_first, none_after}
 use Rattle.small_laws.proofs.Accepted.{accepted_small}

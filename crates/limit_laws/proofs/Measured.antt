@@ -1,8 +1,8 @@
 -- A whole statement counts no more than the steps of the source do, and keeps the limits where these do.
-use Rattle.std.proofs.Common.{◌≡◌, refl, sym, ap, ◌∙◌, subst, ℕ, suc, ◌+◌, ◌*◌, ◌≤◌, ◌||◌, ◌&&◌, min, max, nat_le, Bool, true, false, List, [], ◌∷◌, ◌++◌, length, Option, None, arith, if◌then◌else◌}
+use Rattle.std.proofs.Common.{◌≡◌, refl, sym, ap, ◌∙◌, subst, ℕ, ◌+◌, ◌*◌, ◌≤◌, ◌||◌, min, max, nat_le, Bool, true, false, List, [], ◌∷◌, ◌++◌, None, arith, if◌then◌else◌}
 use Rattle.std.proofs.lemmas.Bool.{and_from}
 use Rattle.hlfir_ops.specs.declared.what.What.{What}
-use Rattle.hlfir_ops.specs.declared.op.Op.{Op, Op-F, out-Op, roll-Op, out-roll-Op}
+use Rattle.hlfir_ops.specs.declared.op.Op.{Op, Op-F, out-Op, out-roll-Op}
 use Rattle.hlfir_ops.specs.declared.op.Region.{Region}
 use Rattle.hlfir_ops.specs.Trees.{op_of}
 use Rattle.hlfir_ops.specs.Numbers.{order_of, order_in}
@@ -13,18 +13,18 @@ use Rattle.ws_counts.specs.declared.tally.Piece.{Piece}
 use Rattle.ws_counts.specs.declared.tally.Piece.TheVariants as piece
 use Rattle.ws_counts.specs.declared.tally.Tally.{Tally}
 use Rattle.ws_counts.specs.declared.tally.Total.{Total}
-use Rattle.ws_counts.specs.Counts.{parts_in, masks_in, step_phases, parts_of, phases_of, temporaries_of, steps_from}
+use Rattle.ws_counts.specs.Counts.{parts_in, masks_in, parts_of, phases_of, temporaries_of, steps_from}
 use Rattle.ws_counts.specs.Tallies.{tallied}
 use Rattle.ws_counts.specs.Tallies as tallies
 use Rattle.ws_counts.proofs.Steps.{IsInStep, one_more, ends}
 use Rattle.ws_counts.proofs.Numbers.{all_counted}
-use Rattle.limit_laws.specs.Costs.{sum_of, size}
-use Rattle.limit_laws.proofs.Totals.{order-op, weight-op}
+use Rattle.limit_laws.proofs.Costs.{sum_of, size}
+use Rattle.limit_laws.proofs.Totals.{order-op}
 use Rattle.limit_laws.proofs.Pieces.{how_many-append}
 use Rattle.limit_laws.proofs.Counting.{size-is}
 use Rattle.limit_laws.proofs.Tallying.{Reaches, reaches-assigned}
 use Rattle.limit_laws.proofs.Walking.{Under, Below, Whole, bound, assigned_in}
-use Rattle.ws_counts.specs.Counts.{how_many, is_part, is_mask}
+use Rattle.ws_counts.specs.Counts.{is_part, is_mask}
 
 -- ---- the steps of pieces count all of them
 

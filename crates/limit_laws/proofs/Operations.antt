@@ -1,6 +1,5 @@
 -- Costs of elementwise operations.
-use Rattle.std.proofs.Common.{◌≡◌, refl, sym, ap, ◌∙◌, subst, ℕ, suc, ◌+◌, ◌*◌, ◌≤◌, ◌<◌, ◌==◌, Bool, true, false, List, [], ◌∷◌, ◌++◌, length, map, Option, Some, None, arith, if◌then◌else◌}
-use Rattle.std.specs.Prelude.{⊤}
+use Rattle.std.proofs.Common.{◌≡◌, refl, ap, subst, ℕ, suc, ◌+◌, ◌*◌, ◌≤◌, ◌<◌, ◌==◌, Bool, true, false, List, [], ◌∷◌, length, Option, Some, None, arith, if◌then◌else◌}
 use Rattle.std.proofs.lemmas.List.{length-map}
 use Rattle.hlfir_ops.specs.declared.kinds.Elem.{Elem}
 use Rattle.hlfir_ops.specs.declared.kinds.Elem.TheVariants.{I32, I1}
@@ -11,7 +10,6 @@ use Rattle.hlfir_ops.specs.declared.what.What.TheVariants as what
 use Rattle.hlfir_ops.specs.declared.what.ValueUnary.TheVariants as unary
 use Rattle.hlfir_ops.specs.declared.what.ValueBinary.{ValueBinary}
 use Rattle.hlfir_ops.specs.declared.op.ValueId.{ValueId}
-use Rattle.hlfir_ops.specs.declared.op.Op.{Op}
 use Rattle.hlfir_ops.specs.Numbers.{numbers_of}
 use Rattle.hlfir_ops.specs.RulesValues.{Value, elem_of, rank_of}
 use Rattle.hlfir_ops.specs.RulesForms.{result_elem}
@@ -21,8 +19,8 @@ use Rattle.lower_assign.specs.declared.operand.Operand.{Operand}
 use Rattle.lower_assign.specs.Scopes.{Scope, inside}
 use Rattle.lower_assign.specs.Lowerings.{Lowering, Lowered, done, ◌>>=◌ as ◌then◌, giving, acting, giving_by}
 use Rattle.lower_assign.specs.Operations.{constant, values_of, arranged, rank_from, on_scalars, at_position, at_positions, element, at_each, operation, binary_operation, value_of_whole, in_parentheses, unary_operation, joined}
-use Rattle.limit_laws.specs.Costs.{is_light, reduces, wholes, Costs, slack, IsProper, Priced}
-use Rattle.limit_laws.proofs.Costing.{Spends, costs-none, costs-weaker, costs-around, spends-done, spends-then, spends-giving, spends-acting}
+use Rattle.limit_laws.proofs.Costs.{is_light, reduces, wholes, Costs, slack, IsProper, Priced}
+use Rattle.limit_laws.proofs.Costing.{Spends, costs-weaker, costs-around, spends-done, spends-then, spends-giving, spends-acting}
 
 -- an op that is no statement, no reduction, no designator and no vector
 pub record IsPlain (w : What) : Type 0 where

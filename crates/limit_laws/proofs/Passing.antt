@@ -1,5 +1,5 @@
 -- Ops that keep the limits where they stand.
-use Rattle.std.proofs.Common.{◌≡◌, refl, sym, ap, ◌∙◌, subst, ℕ, suc, ◌+◌, ◌≤◌, ◌&&◌, nat_lt, nat_le, Bool, true, false, List, [], ◌∷◌, ◌++◌, length, map, Option, arith, if◌then◌else◌}
+use Rattle.std.proofs.Common.{◌≡◌, refl, sym, ap, ◌∙◌, subst, ℕ, suc, ◌+◌, ◌≤◌, ◌&&◌, Bool, true, false, List, [], ◌∷◌, ◌++◌, length, map, Option, arith, if◌then◌else◌}
 use Rattle.std.specs.List.{list_all}
 use Rattle.std.proofs.lemmas.Bool.{and_from, false≢true}
 use Rattle.std.proofs.lemmas.List.Folds.{list_all-append}
@@ -8,15 +8,15 @@ use Rattle.hlfir_ops.specs.declared.kinds.ValueKind.{ValueKind}
 use Rattle.hlfir_ops.specs.declared.what.What.{What}
 use Rattle.hlfir_ops.specs.declared.what.What.TheVariants as what
 use Rattle.hlfir_ops.specs.declared.op.ValueId.{ValueId}
-use Rattle.hlfir_ops.specs.declared.op.Op.{Op, Op', Op-F, out-Op, roll-Op, out-roll-Op}
-use Rattle.hlfir_ops.specs.declared.op.Region.{Region, Region', out-Region, out-roll-Region}
+use Rattle.hlfir_ops.specs.declared.op.Op.{Op, Op', Op-F, out-Op, out-roll-Op}
+use Rattle.hlfir_ops.specs.declared.op.Region.{Region, Region', out-roll-Region}
 use Rattle.hlfir_ops.specs.Trees.{Ops, end_ops, more_ops, Regions, end_regions, more_regions, op_of, region_of}
 use Rattle.hlfir_ops.specs.Numbers.{names_in, own_numbers, op_numbers, ops_numbers, numbers_of, op_order, regions_order, ops_order, order_of}
 use Rattle.hlfir_ops.specs.RulesValues.{Value}
 use Rattle.hlfir_ops.specs.RulesPlaces.{Around, Place, Site, around_in, from_number, own_defined, op_sites, regions_sites, ops_sites, sites_of, sites_in}
 use Rattle.hlfir_ops.specs.Rules.{own_limits, counts_fit, limits_fit}
 use Rattle.kind_laws.proofs.Sited.{op_sites-parts, sites_of-append, defined_by}
-use Rattle.limit_laws.specs.Costs.{sum_of, weight, total, is_light, heavy}
+use Rattle.limit_laws.proofs.Costs.{sum_of, weight, total, is_light, heavy}
 
 -- ---- the sites stand in printed order
 

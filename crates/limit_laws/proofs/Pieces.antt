@@ -1,11 +1,11 @@
 -- Numbers of pieces.
-use Rattle.std.proofs.Common.{◌≡◌, refl, sym, ap, ◌∙◌, ℕ, ◌+◌, Bool, true, false, List, [], ◌∷◌, ◌++◌, add_assoc, zero-add, if◌then◌else◌}
+use Rattle.std.proofs.Common.{◌≡◌, refl, sym, ap, ◌∙◌, ◌+◌, Bool, true, false, List, [], ◌∷◌, ◌++◌, add_assoc, zero-add, if◌then◌else◌}
 use Rattle.ws_counts.specs.declared.tally.Piece.{Piece}
 use Rattle.ws_counts.specs.Counts.{how_many, is_part, is_reduction, is_whole, parts_in, reductions_in, wholes_in}
 use Rattle.ws_counts.specs.Pieces.{call_pieces, subscript_pieces}
 use Rattle.ws_base.specs.declared.op.CallWord.{CallWord}
 use Rattle.ws_types.specs.Operations as types
-use Rattle.limit_laws.specs.Costs.{one_if}
+use Rattle.limit_laws.proofs.Costs.{one_if}
 
 pub how_many-append : (test : Piece → Bool) (xs ys : List Piece) → how_many test (xs ++ ys) ≡ how_many test xs + how_many test ys
 how_many-append test [] ys = sym (zero-add (how_many test ys))

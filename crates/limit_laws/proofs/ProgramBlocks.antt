@@ -1,8 +1,7 @@
 -- All statements of a program.
-use Rattle.std.proofs.Common.{◌≡◌, refl, sym, ap, ◌∙◌, subst, ℕ, suc, ◌+◌, ◌*◌, ◌<◌, ◌≤◌, not, ◌&&◌, Bool, true, false, List, [], ◌∷◌, ◌++◌, length, map, All, Option, Some, None, arith, true≢false}
+use Rattle.std.proofs.Common.{◌≡◌, refl, sym, ◌∙◌, subst, ℕ, ◌+◌, ◌*◌, ◌<◌, ◌≤◌, not, ◌&&◌, nat_lt, Bool, true, false, List, [], ◌∷◌, All, Option, None, arith, true≢false}
 use Rattle.std.specs.Prelude.{⊤}
-use Rattle.std.specs.List.{flat_map}
-use Rattle.std.proofs.lemmas.Bool.{and_from, false≢true}
+use Rattle.std.proofs.lemmas.Bool.{and_from}
 use Rattle.std.proofs.lemmas.List.Elements.{All-head, All-tail}
 use mathlib.Core.Former.{Count}
 use Rattle.ws_base.specs.declared.name.Name.{Name}
@@ -15,35 +14,31 @@ use Rattle.ws_tree.specs.Trees.{Stmts, end_stmts, more_stmts}
 use Rattle.ws_tree.specs.Grammatical.{IsBody}
 use Rattle.ws_tree.specs.Grammatical.Within.{anywhere}
 use Rattle.ws_types.specs.declared.types.Row.{Row}
-use Rattle.ws_counts.specs.declared.tally.Piece.{Piece}
 use Rattle.ws_counts.specs.Counts.{parts_in, reductions_in, wholes_in, statement_steps}
 use Rattle.ws_counts.specs.Limits.{loop_pieces, allocate_pieces, read_pieces, body_limits, block_limits, stmts_limits, body_steps, block_steps}
 use Rattle.ws_counts.specs.Pieces as p
 use Rattle.ws_sema.specs.declared.within.Within.{Within}
 use Rattle.ws_sema.specs.declared.within.Within.TheVariants as within
-use Rattle.ws_sema.specs.Statements.{is_inside, is_masked, is_shared, is_outside, assign_faults, mask_rank, with_active, body_faults, block_faults, stmts_faults}
-use Rattle.hlfir_ops.specs.declared.what.What.{What}
+use Rattle.ws_sema.specs.Statements.{is_inside, is_masked, is_shared, mask_rank, with_active, body_faults, block_faults, stmts_faults}
 use Rattle.hlfir_ops.specs.declared.what.What.TheVariants as what
-use Rattle.hlfir_ops.specs.declared.op.ValueId.{ValueId}
 use Rattle.hlfir_ops.specs.declared.op.Op.{Op}
-use Rattle.hlfir_ops.specs.declared.op.Region.{Region}
-use Rattle.hlfir_ops.specs.Trees.{op_of, region_of}
-use Rattle.hlfir_ops.specs.Numbers.{numbers_of, order_of}
+use Rattle.hlfir_ops.specs.Trees.{region_of}
+use Rattle.hlfir_ops.specs.Numbers.{numbers_of}
 use Rattle.hlfir_ops.specs.RulesValues.{Value}
 use Rattle.hlfir_ops.specs.RulesPlaces.{Around, around_in}
 use Rattle.lower_assign.specs.Scopes.{Scope, inside}
-use Rattle.lower_assign.specs.Lowerings.{Lowering, done, ◌>>=◌ as ◌then◌, scoped, statement_of, regions_from, acting}
+use Rattle.lower_assign.specs.Lowerings.{Lowering, done, ◌>>=◌ as ◌then◌, scoped, statement_of, acting}
 use Rattle.lower_assign.specs.References.{declare_of}
 use Rattle.lower_assign.specs.Statements.{all_yielded, is_whole_allocatable, assignment}
 use Rattle.lower_constructs.specs.Modules.{triple, statement, statements}
 use Rattle.lower_constructs.specs.Modules.{statement_list}
 use Rattle.small_laws.specs.Small.{IsSmallBody, AreSmallStmts, IsSmallStmt}
-use Rattle.small_laws.proofs.NoFaults.{none_first, none_after, impossible, looked_into, allowed}
+use Rattle.small_laws.proofs.NoFaults.{none_first, none_after, impossible, looked_into}
 use Rattle.kind_laws.specs.Standing.{Knows}
 use Rattle.kind_laws.specs.Found.{Holds, ScopeIsFound}
 use Rattle.kind_laws.specs.Laws.{TypesAreKnown, KindsAreTypes, ValuesAreFound, index_names}
 use Rattle.kind_laws.proofs.ScopesKnown.{loop_known}
-use Rattle.limit_laws.specs.Costs.{total, size, Costs}
+use Rattle.limit_laws.proofs.Costs.{Costs}
 use Rattle.limit_laws.proofs.Costing.{costs-weaker}
 use Rattle.limit_laws.proofs.Held.{then-first, then-rest, regions-there, region-there, rest-there}
 use Rattle.limit_laws.proofs.Passing.{Passing, passing-light, passing-none, passing-append, regions-none, regions-more, passing-op}
@@ -60,6 +55,12 @@ use Rattle.limit_laws.proofs.AlikeStatements.{allocate-alike, read-alike}
 use Rattle.limit_laws.proofs.Serial as serial
 use Rattle.limit_laws.proofs.Serial.{few-phases, few-temporaries, deallocated, items-read, parts-allocated}
 use Rattle.limit_laws.proofs.Programs.{FitTogether, together-first, together-rest, not_inside, not_shared, Runs, runs-none, runs-more, alone, one-runs, steps_are, same_within, loop_region_fits, share_fits}
+
+few_bodies : (a : Around) (b : ℕ) → b < 65 → a.bodies ≤ b → nat_lt a.bodies 65 ≡ true
+few_bodies a b h low = bodies_fit a.bodies (omega (arith, h, low))
+
+more_bodies : (a : Around) (b : ℕ) → a.bodies ≤ b → 1 + a.bodies ≤ 1 + b
+more_bodies a b low = omega (arith, low)
 
 -- ---- a DO
 
@@ -91,9 +92,9 @@ module _ (types : TypesAreKnown) (kinds : KindsAreTypes) (found : ValuesAreFound
       (then-first vs (triple l k o) (λ ws. acting what.Yield ws) scope (n + 0 + 0) first)))
       (omega (arith, triple-length types kinds found vs t scope (knows-moved t s scope.masked scope.line knows) (found-moved vs s scope.masked scope.line here) (n + 0 + 0) l k o)) (omega arith) (omega arith) in
       let active = loop_known t s w line x (none_after _ _ (none_first _ _ (none_first _ _ (none_first _ _ (none_first _ _ (looked_into (is_masked w) line refusal.Unsupported _ f)))))) knows in
-      let block_passes = each block_scope (next + 0) (around_in a op 1) (knows-moved (with_active t x) s block_scope.masked block_scope.line active) (found-moved vs s block_scope.masked block_scope.line here) (omega (arith, low)) (region-there vs next op 1 block_ops [] (rest-there vs (n + 0) op 0 ops (region_of block_ops ∷ []) held)) in
+      let block_passes = each block_scope (next + 0) (around_in a op 1) (knows-moved (with_active t x) s block_scope.masked block_scope.line active) (found-moved vs s block_scope.masked block_scope.line here) (more_bodies a b low) (region-there vs next op 1 block_ops [] (rest-there vs (n + 0) op 0 ops (region_of block_ops ∷ []) held)) in
       passing-op vs a op line (d ∷ []) None (region_of ops ∷ region_of block_ops ∷ [])
-      (λ before. and_from _ _ (bodies_fit a.bodies (omega (arith, i.0, low))) (loop_region_fits types kinds found vs t u alike line x l k o s ops (d ∷ []) (region_of block_ops ∷ []) costs (none_first _ _ g)))
+      (λ before. and_from _ _ (few_bodies a b i.0 low) (loop_region_fits types kinds found vs t u alike line x l k o s ops (d ∷ []) (region_of block_ops ∷ []) costs (none_first _ _ g)))
       (regions-more vs a op 0 ops (region_of block_ops ∷ []) (passing-light vs (around_in a op 0) ops costs.light) (regions-more vs a op 1 block_ops [] block_passes (regions-none vs a op 2)))
 
   loop_not_shared : (t : List Row) (w : Within) (line : ℕ) (x : Name) (l k : Expr) (o : Option Expr) (c : _) (block : _) → body_faults t w line (Loop' x l k o c block) ≡ [] → is_shared w ≡ false
@@ -123,7 +124,7 @@ module _ (types : TypesAreKnown) (kinds : KindsAreTypes) (found : ValuesAreFound
         (elses-in types kinds found vs t line (mask_rank t mask) (1 + b) rest i.3 (none_after _ _ (looked_into (is_inside w) line refusal.Unsupported _ f)))
         (regions-there vs n what.Masked line [] None _ h) in
         one-runs types kinds found vs w a what.Masked line _ (p.statement_pieces t false whole) (statement_steps u line whole) (steps_are types kinds found vs t u alike line whole)
-        (first-whole vs _ _ r.first) r.passing g together (λ fits before. and_from _ _ (bodies_fit a.bodies (omega (arith, i.0, low))) fits)
+        (first-whole vs _ _ r.first) r.passing g together (λ fits before. and_from _ _ (few_bodies a b i.0 low) fits)
     body-runs t u alike w line b (Forall' [] mask c block) outer i small f g together s n a knows here low h = absurd (let some = i.1.0 in omega (arith, some))
     body-runs t u alike w line b (Forall' (x ∷ is) mask c block) outer i small f g together s n a knows here low h =
         let whole : Body = Forall' (x ∷ is) mask c block in
@@ -131,7 +132,7 @@ module _ (types : TypesAreKnown) (kinds : KindsAreTypes) (found : ValuesAreFound
         let r = forall-stands types kinds found vs t line (1 + b) x is mask block s n a knows here i.1 i.2 (none_first _ _ (looked_into (is_masked w) line refusal.Unsupported _ f)) (none_after _ _ (looked_into (is_masked w) line refusal.Unsupported _ f))
         (regions-there vs n op line [] None _ h) in
         one-runs types kinds found vs w a op line _ (p.statement_pieces t false whole) (statement_steps u line whole) (steps_are types kinds found vs t u alike line whole)
-        r.whole r.passing g together (λ fits before. and_from _ _ (bodies_fit a.bodies (omega (arith, i.0, low))) fits)
+        r.whole r.passing g together (λ fits before. and_from _ _ (few_bodies a b i.0 low) fits)
     body-runs t u alike w line b (Loop' x l k o c block) outer i small f g together s n a knows here low h =
         let other = loop_not_shared t w line x l k o c block f in
         alone types kinds found vs w a _ _ other
@@ -154,9 +155,9 @@ module _ (types : TypesAreKnown) (kinds : KindsAreTypes) (found : ValuesAreFound
         let ops = (statements block scope (n + 0 + 0)).ops in
         let all = block_steps u block in
         let r = block-runs t u alike within.Shared (1 + b) block refl i.1 small f (none_first _ _ g) (record { phases = λ _. few-phases line all (none_after _ _ g); temporaries = λ _. few-temporaries line all (none_after _ _ g) }) scope (n + 0 + 0) (around_in a op 0)
-        (knows-moved t s scope.masked scope.line knows) (found-moved vs s scope.masked scope.line here) (omega (arith, low)) (region-there vs (n + 0) op 0 ops [] (regions-there vs n op line [] None (region_of ops ∷ []) h)) in
+        (knows-moved t s scope.masked scope.line knows) (found-moved vs s scope.masked scope.line here) (more_bodies a b low) (region-there vs (n + 0) op 0 ops [] (regions-there vs n op line [] None (region_of ops ∷ []) h)) in
         alone types kinds found vs within.Outside a _ _ refl
-        (passing-op vs a op line [] None (region_of ops ∷ []) (λ before. and_from _ _ (bodies_fit a.bodies (omega (arith, i.0, low))) (share_fits types kinds found vs line ops all (r.phases refl) (r.temporaries refl) (none_after _ _ g)))
+        (passing-op vs a op line [] None (region_of ops ∷ []) (λ before. and_from _ _ (few_bodies a b i.0 low) (share_fits types kinds found vs line ops all (r.phases refl) (r.temporaries refl) (none_after _ _ g)))
         (regions-more vs a op 0 ops [] r.passing (regions-none vs a op 1)))
     body-runs t u alike within.Shared line b (Shared' c block) outer i small f g together s n a knows here low h = impossible line refusal.Unsupported f
     body-runs t u alike within.Forall line b (Shared' c block) outer i small f g together s n a knows here low h = impossible line refusal.Unsupported f

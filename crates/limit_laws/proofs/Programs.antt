@@ -1,61 +1,38 @@
 -- The statements of a program, outside WHERE and FORALL.
-use Rattle.std.proofs.Common.{◌≡◌, refl, sym, ap, ◌∙◌, subst, ℕ, suc, ◌+◌, ◌*◌, ◌<◌, ◌≤◌, not, ◌&&◌, max, Bool, true, false, List, [], ◌∷◌, ◌++◌, length, map, All, Option, Some, None, arith, true≢false}
-use Rattle.std.specs.Prelude.{⊤}
-use Rattle.std.proofs.lemmas.Bool.{and_from, false≢true}
-use mathlib.Core.Former.{Count}
+use Rattle.std.proofs.Common.{◌≡◌, refl, sym, ap, ◌∙◌, subst, ℕ, ◌+◌, ◌*◌, ◌≤◌, ◌&&◌, max, Bool, true, false, List, [], ◌∷◌, ◌++◌, Option, None, arith, true≢false}
 use Rattle.ws_base.specs.declared.name.Name.{Name}
 use Rattle.ws_base.specs.declared.refusal.RefusalKind.TheVariants as refusal
 use Rattle.ws_tree.specs.declared.expr.Expr.{Expr}
 use Rattle.ws_tree.specs.declared.stmt.Body.{Body}
-use Rattle.ws_tree.specs.declared.stmt.Body.TheVariants.{Assign, Masked', Forall', Loop', Allocate, Deallocate, Read, Shared', Unsupported, TooDeep}
-use Rattle.ws_tree.specs.Trees.{Stmts, end_stmts, more_stmts}
 use Rattle.ws_types.specs.declared.types.Row.{Row}
 use Rattle.ws_counts.specs.declared.tally.Piece.{Piece}
-use Rattle.ws_counts.specs.Counts.{parts_in, reductions_in, wholes_in, parts_of, steps_from, statement_steps}
-use Rattle.ws_counts.specs.Counts as counts
-use Rattle.ws_counts.specs.Limits.{all_phases, all_temporaries, parts_faults, own_steps_faults, statement_faults, steps_faults, expressions_faults, loop_pieces, allocate_pieces, read_pieces, body_limits, block_limits, body_steps, block_steps}
+use Rattle.ws_counts.specs.Counts.{parts_in, reductions_in, wholes_in, steps_from, statement_steps}
+use Rattle.ws_counts.specs.Limits.{all_phases, all_temporaries, own_steps_faults, statement_faults, steps_faults, expressions_faults, loop_pieces}
 use Rattle.ws_counts.specs.Pieces as p
 use Rattle.ws_counts.proofs.Steps.{statement_steps_are}
 use Rattle.ws_sema.specs.declared.within.Within.{Within}
 use Rattle.ws_sema.specs.declared.within.Within.TheVariants as within
-use Rattle.ws_sema.specs.Statements.{is_inside, is_masked, is_shared, is_outside, assign_faults, serial_faults, mask_rank, with_active, body_faults, block_faults}
+use Rattle.ws_sema.specs.Statements.{is_inside, is_masked, is_shared, serial_faults}
 use Rattle.hlfir_ops.specs.declared.what.What.{What}
 use Rattle.hlfir_ops.specs.declared.what.What.TheVariants as what
 use Rattle.hlfir_ops.specs.declared.op.ValueId.{ValueId}
 use Rattle.hlfir_ops.specs.declared.op.Op.{Op, Op-F, out-Op, out-roll-Op}
 use Rattle.hlfir_ops.specs.declared.op.Region.{Region, out-roll-Region}
 use Rattle.hlfir_ops.specs.Trees.{op_of, region_of}
-use Rattle.hlfir_ops.specs.Numbers.{numbers_of, order_of}
+use Rattle.hlfir_ops.specs.Numbers.{order_of}
 use Rattle.hlfir_ops.specs.RulesValues.{Value}
 use Rattle.hlfir_ops.specs.RulesRegions.{ops_in}
-use Rattle.hlfir_ops.specs.RulesPlaces.{Around, around_in}
-use Rattle.hlfir_ops.specs.RulesLimits.{statement_count, phases_of, temporaries_of}
+use Rattle.hlfir_ops.specs.RulesPlaces.{Around}
+use Rattle.hlfir_ops.specs.RulesLimits.{phases_of, temporaries_of}
 use Rattle.hlfir_ops.specs.Rules.{own_limits, counts_fit, statement_fits, workshare_fits}
-use Rattle.lower_assign.specs.Scopes.{Scope, inside}
-use Rattle.lower_assign.specs.Lowerings.{Lowering, done, ◌>>=◌ as ◌then◌, scoped, statement_of, acting}
-use Rattle.lower_assign.specs.References.{declare_of}
-use Rattle.lower_assign.specs.Statements.{all_yielded, is_whole_allocatable, assignment}
-use Rattle.lower_constructs.specs.Modules.{triple, statement, statements}
-use Rattle.small_laws.specs.Small.{IsSmallBody, AreSmallStmts}
-use Rattle.small_laws.proofs.NoFaults.{none_first, none_after, not_broken, impossible, looked_into, allowed}
-use Rattle.kind_laws.specs.Standing.{Knows}
-use Rattle.kind_laws.specs.Found.{Holds, ScopeIsFound}
-use Rattle.kind_laws.specs.Laws.{TypesAreKnown, KindsAreTypes, ValuesAreFound, index_names}
-use Rattle.kind_laws.proofs.ScopesKnown.{loop_known}
-use Rattle.limit_laws.specs.Costs.{total, size, Costs}
-use Rattle.limit_laws.proofs.Costing.{costs-weaker}
-use Rattle.limit_laws.proofs.Held.{then-first, then-rest, regions-there, region-there, rest-there}
-use Rattle.limit_laws.proofs.Passing.{Passing, RegionsPass, passing-light, passing-none, passing-append, regions-none, regions-more, passing-op}
-use Rattle.limit_laws.proofs.Walking.{Whole, first-whole}
-use Rattle.limit_laws.proofs.Scopes.{knows-moved, found-moved}
-use Rattle.limit_laws.proofs.Formed.{IsFormed, AreFormed}
-use Rattle.limit_laws.proofs.Sides.{spends-all_yielded}
-use Rattle.limit_laws.proofs.Headers.{triple-costs, triple-length}
-use Rattle.limit_laws.proofs.Wheres.{bodies_fit, assign-first, assign-regions, masked-stands}
-use Rattle.limit_laws.proofs.WhereBlocks.{block-in, elses-in}
-use Rattle.limit_laws.proofs.Foralls.{forall-stands}
-use Rattle.limit_laws.proofs.Alike.{Alike, active-alike}
-use Rattle.limit_laws.proofs.AlikeStatements.{statement-alike, loop-alike, allocate-alike, read-alike}
+use Rattle.lower_assign.specs.Scopes.{Scope}
+use Rattle.small_laws.proofs.NoFaults.{none_first, none_after, not_broken}
+use Rattle.kind_laws.specs.Laws.{TypesAreKnown, KindsAreTypes, ValuesAreFound}
+use Rattle.limit_laws.proofs.Costs.{Costs}
+use Rattle.limit_laws.proofs.Passing.{Passing, RegionsPass, passing-none, passing-append, passing-op}
+use Rattle.limit_laws.proofs.Walking.{Whole}
+use Rattle.limit_laws.proofs.Alike.{Alike}
+use Rattle.limit_laws.proofs.AlikeStatements.{statement-alike, loop-alike}
 use Rattle.limit_laws.proofs.Measured.{Measured, measured, statement-fits, count-fits}
 use Rattle.limit_laws.proofs.Serial as serial
 use Rattle.limit_laws.proofs.Serial.{Fits, few-parts, few-phases, few-temporaries, one-fits, AreWithin, within-self, first-region-fits, deallocated, items-read, parts-allocated}

@@ -1,5 +1,5 @@
 -- Costs of names, boxes, loads, inquiries and parts of arrays.
-use Rattle.std.proofs.Common.{◌≡◌, refl, sym, ap, ◌∙◌, subst, ℕ, suc, ◌+◌, ◌≤◌, ◌<◌, ◌==◌, ◌&&◌, Bool, true, false, List, [], ◌∷◌, ◌++◌, length, map, All, Option, Some, None, arith, if◌then◌else◌, bytes_eq}
+use Rattle.std.proofs.Common.{◌≡◌, refl, sym, ap, ◌∙◌, subst, ℕ, ◌+◌, ◌==◌, Bool, true, false, List, [], ◌∷◌, ◌++◌, length, map, All, Option, Some, None, arith, if◌then◌else◌, bytes_eq}
 use Rattle.std.specs.List.{flat_map}
 use Rattle.std.proofs.lemmas.List.Elements.{All-head, All-tail}
 use Rattle.ws_base.specs.declared.name.Name.{Name}
@@ -27,15 +27,15 @@ use Rattle.lower_assign.specs.declared.names.Variable.{Variable}
 use Rattle.lower_assign.specs.declared.operand.Operand.{Operand}
 use Rattle.lower_assign.specs.declared.operand.Subscript.{Subscript}
 use Rattle.lower_assign.specs.Scopes.{Scope, index_of}
-use Rattle.lower_assign.specs.Lowerings.{Lowering, Lowered, done, ◌>>=◌ as ◌then◌, scoped, giving}
-use Rattle.lower_assign.specs.References.{nothing, variable_of, or_nothing, declare_of, box_of, boxed, reference, load_of, loaded, truth_of, variable_or_truth, index_or_other, named, sub_kind, sub_values, bound, part_kind, designated, first_name, dimension_in, size, dimension, bound_word, bound_or_size, is_allocated, inquiry_of, inquiry_or_nothing, inquiry}
-use Rattle.small_laws.proofs.NoFaults.{none_first, none_after, not_broken, impossible}
+use Rattle.lower_assign.specs.Lowerings.{Lowering, done, ◌>>=◌ as ◌then◌, scoped, giving}
+use Rattle.lower_assign.specs.References.{variable_of, or_nothing, declare_of, box_of, boxed, reference, load_of, loaded, variable_or_truth, index_or_other, named, sub_kind, sub_values, bound, part_kind, designated, first_name, dimension_in, size, dimension, bound_word, bound_or_size, is_allocated, inquiry_or_nothing, inquiry}
+use Rattle.small_laws.proofs.NoFaults.{none_first, none_after, impossible}
 use Rattle.kind_laws.specs.Standing.{FitsEntry, EntryIsKnown, NameIsKnown}
 use Rattle.kind_laws.specs.Found.{Holds, DeclareIsFound}
-use Rattle.limit_laws.specs.Costs.{total, size as size_of, Costs, slack, IsProper, Priced, wholes_among, one_if}
+use Rattle.limit_laws.proofs.Costs.{total, size as size_of, Costs, slack, IsProper, Priced, wholes_among, one_if}
 use Rattle.limit_laws.proofs.Costing.{Spends, costs-weaker, spends-done, spends-then, spends-giving}
-use Rattle.limit_laws.proofs.Held.{then-first, then-rest, value-there}
-use Rattle.limit_laws.proofs.Operations.{priced, priced-weaker, priced-costs, priced-constant, slack-few}
+use Rattle.limit_laws.proofs.Held.{value-there}
+use Rattle.limit_laws.proofs.Operations.{priced, priced-weaker, priced-constant, slack-few}
 
 -- ---- kinds of variables
 

@@ -1,5 +1,5 @@
 -- What is known in a scope is known in the regions of an op that brings no names.
-use Rattle.std.proofs.Common.{◌≡◌, ℕ, Bool, Option, Some, None, List}
+use Rattle.std.proofs.Common.{ℕ, Bool, Option, Some, None, List}
 use Rattle.ws_types.specs.declared.types.Row.{Row}
 use Rattle.ws_types.specs.declared.types.Standing.{Standing}
 use Rattle.ws_types.specs.declared.types.Standing.TheVariants.{Declared, Active, Index, Barred}

@@ -1,12 +1,11 @@
 -- The expressions of a DO, ALLOCATE or READ keep the limits.
-use Rattle.std.proofs.Common.{◌≡◌, refl, sym, ap, ◌∙◌, subst, ℕ, suc, ◌+◌, ◌*◌, ◌<◌, ◌≤◌, ◌||◌, ◌&&◌, max, nat_lt, nat_le, Bool, true, false, List, [], ◌∷◌, ◌++◌, length, All, Option, Some, None, arith, append-nil}
+use Rattle.std.proofs.Common.{◌≡◌, refl, ap, ◌∙◌, subst, ℕ, suc, ◌+◌, ◌*◌, ◌≤◌, nat_lt, nat_le, Bool, true, false, List, [], ◌∷◌, ◌++◌, length, All, None, arith}
 use Rattle.std.specs.Prelude.{⊤, pos}
 use Rattle.std.specs.List.{flat_map}
 use Rattle.std.proofs.lemmas.Bool.{and_from, ltb-false}
 use Rattle.std.proofs.lemmas.List.{length-append}
 use Rattle.std.proofs.lemmas.List.Elements.{All-head, All-tail}
 use Rattle.ws_base.specs.declared.name.Name.{Name}
-use Rattle.ws_base.specs.declared.refusal.RefusalKind.TheVariants as refusal
 use Rattle.ws_tree.specs.declared.expr.Expr.{Expr}
 use Rattle.ws_tree.specs.declared.stmt.Bound.{Bound}
 use Rattle.ws_tree.specs.declared.stmt.Bound.TheVariants as bounds
@@ -15,22 +14,21 @@ use Rattle.ws_tree.specs.Grammatical.{IsDesignator, IsBound, IsPart}
 use Rattle.ws_types.specs.declared.types.Row.{Row}
 use Rattle.ws_counts.specs.declared.tally.Piece.{Piece}
 use Rattle.ws_counts.specs.Counts.{parts_in, reductions_in, wholes_in, parts_of, phases_of, temporaries_of}
-use Rattle.ws_counts.specs.Limits.{part_limit, parts_faults, steps_faults, own_steps_faults, statement_faults, expressions_faults, all_phases, all_temporaries, bound_pieces, part_pieces, allocate_pieces, read_pieces}
-use Rattle.ws_counts.specs.Limits as limits
+use Rattle.ws_counts.specs.Limits.{parts_faults, steps_faults, expressions_faults, all_phases, all_temporaries, bound_pieces, part_pieces, allocate_pieces, read_pieces}
 use Rattle.ws_counts.specs.Pieces as p
 use Rattle.ws_sema.specs.Statements.{allocated_bound_faults, allocated_bounds_faults, allocation_faults, allocations_faults, item_faults, items_faults}
 use Rattle.hlfir_ops.specs.declared.kinds.Elem.TheVariants.{I32}
 use Rattle.hlfir_ops.specs.declared.what.What.{What}
 use Rattle.hlfir_ops.specs.declared.what.What.TheVariants as what
 use Rattle.hlfir_ops.specs.declared.op.ValueId.{ValueId}
-use Rattle.hlfir_ops.specs.declared.op.Op.{Op, Op-F, out-Op, roll-Op, out-roll-Op}
+use Rattle.hlfir_ops.specs.declared.op.Op.{Op, Op-F, out-Op, out-roll-Op}
 use Rattle.hlfir_ops.specs.declared.op.Region.{Region, out-roll-Region}
 use Rattle.hlfir_ops.specs.Trees.{op_of, region_of}
-use Rattle.hlfir_ops.specs.Numbers.{numbers_of, order_of, order_in}
+use Rattle.hlfir_ops.specs.Numbers.{numbers_of, order_of}
 use Rattle.hlfir_ops.specs.RulesValues.{Value}
-use Rattle.hlfir_ops.specs.RulesRegions.{ops_in, ops_of}
+use Rattle.hlfir_ops.specs.RulesRegions.{ops_in}
 use Rattle.hlfir_ops.specs.RulesPlaces.{Around, around_in}
-use Rattle.hlfir_ops.specs.RulesLimits.{size_of, size_limit, nothing, ended, counted_all, step_count}
+use Rattle.hlfir_ops.specs.RulesLimits.{size_of, size_limit, nothing, ended, counted_all}
 use Rattle.hlfir_ops.specs.Rules.{expressions_fit}
 use Rattle.lower_assign.specs.declared.operand.Operand.{Operand}
 use Rattle.lower_assign.specs.Scopes.{Scope, inside}
@@ -38,19 +36,20 @@ use Rattle.lower_assign.specs.Lowerings.{Lowering, Lowered, done, ◌>>=◌ as �
 use Rattle.lower_assign.specs.Operations.{constant}
 use Rattle.lower_assign.specs.References.{declare_of}
 use Rattle.lower_assign.specs.Values.{value}
-use Rattle.lower_assign.specs.Statements.{yielded, all_yielded, left_of, item, bounds_of, all_bounds, allocation, deallocation, reading}
+use Rattle.lower_assign.specs.Statements.{yielded, all_yielded, item, bounds_of, all_bounds, allocation, deallocation, reading}
 use Rattle.small_laws.specs.Small.{IsSmallPart}
 use Rattle.small_laws.proofs.NoFaults.{none_first, none_after, not_broken, left_false, right_false}
 use Rattle.kind_laws.specs.Standing.{Knows}
 use Rattle.kind_laws.specs.Found.{Holds, ScopeIsFound}
 use Rattle.kind_laws.specs.Laws.{TypesAreKnown, KindsAreTypes, ValuesAreFound}
-use Rattle.limit_laws.specs.Costs.{total, heavy, size, reduces, wholes, Costs}
-use Rattle.limit_laws.proofs.Costing.{costs-weaker, costs-append, spends-done, spends-then}
+use Rattle.limit_laws.proofs.Costs.{total, heavy, size, reduces, wholes, Costs}
+use Rattle.limit_laws.proofs.Costing.{costs-weaker, spends-done, spends-then}
 use Rattle.limit_laws.proofs.Held.{then-first, then-rest, regions-there, region-there}
 use Rattle.limit_laws.proofs.Operations.{priced-costs, priced-constant}
 use Rattle.limit_laws.proofs.Pieces.{parts-append, reductions-append, wholes-append}
-use Rattle.limit_laws.proofs.Passing.{Passing, RegionsPass, passing-light, passing-none, passing-append, regions-none, regions-more, passing-op}
+use Rattle.limit_laws.proofs.Passing.{Passing, passing-light, passing-none, passing-append, regions-none, regions-more, passing-op}
 use Rattle.limit_laws.proofs.Counting.{adds-light, size-is}
+use Rattle.limit_laws.proofs.Bounded.{Valued}
 use Rattle.limit_laws.proofs.Measured.{count-fits}
 use Rattle.limit_laws.proofs.Scopes.{knows-moved, found-moved}
 use Rattle.limit_laws.proofs.Sides.{side-valued, designator-costs, spends-all_yielded}
@@ -98,6 +97,9 @@ pub record Allowed (all : List Piece) : Type 0 where
 
 pub allowed : (line : ℕ) (all : List Piece) → expressions_faults line all ≡ [] → Allowed all
 allowed line all f = record { parts = omega (arith, few-parts line (all ∷ []) (none_first _ _ f)); fits = one-fits line (all ∷ []) (none_after _ _ f) }
+
+one_longer : (b : Bound) (bs : List Bound) → 1 + length bs ≡ length (b ∷ bs)
+one_longer b bs = omega arith
 
 module _ (vs : List Value) where
   at_most : (n m : ℕ) → n ≤ m → nat_le n m ≡ true
@@ -168,52 +170,40 @@ module _ (types : TypesAreKnown) (kinds : KindsAreTypes) (found : ValuesAreFound
       reductions : total reduces r.ops ≤ reductions_in ps
       wholes : total (wholes vs) r.ops ≤ wholes_in ps
 
-    module _ (c : Scope) (knows' : Knows t c) (here' : ScopeIsFound vs c) where
-      one-bounded : (b : Bound) (n : ℕ) → IsBound b → allocated_bound_faults t line b ≡ [] → Holds vs n (bounds_of b c n).ops → Bounded (bounds_of b c n) 1 (bound_pieces t b)
+    module _ (c : Scope) where
+      upper-bounded : (u : Expr) (n : ℕ) → (let one : Lowering Operand = constant I32 (pos 1) in Valued vs (value u c (n + numbers_of (one c n).ops)) (p.pieces t false false u)) → Bounded (bounds_of (bounds.Upper u) c n) 1 (p.pieces t false false u)
       unfolding bounds_of ◌then◌ done
-      one-bounded (bounds.Upper u) n i f h =
+      upper-bounded u n v =
           let one : Lowering Operand = constant I32 (pos 1) in
           let m = n + numbers_of (one c n).ops in
-          let k = m + numbers_of (value u c m).ops in
           let x = (one c n).made in
           let y = (value u c m).made in
           let pu = p.pieces t false false u in
-          let h1 = then-rest vs one (λ a. value u then (λ b. done (a.value ∷ b.value ∷ []))) c n h in
-          let v = side-valued types kinds found vs t false false c knows' here' line m u i (none_first _ _ f) (then-first vs (value u) (λ b. done (x.value ∷ b.value ∷ [])) c m h1) in
           let costs = spends-then vs one (λ a. value u then (λ b. done (a.value ∷ b.value ∷ []))) c n 1 0 0 ((8 + 27 * parts_in pu) + 0) (reductions_in pu + 0) (wholes_in pu + 0) (priced-costs vs _ _ _ _ (priced-constant vs I32 (pos 1) c n))
-          (spends-then vs (value u) (λ b. done (x.value ∷ b.value ∷ [])) c m (8 + 27 * parts_in pu) (reductions_in pu) (wholes_in pu) 0 0 0 (priced-costs vs _ _ _ _ v) (spends-done vs (x.value ∷ y.value ∷ []) c k)) in
+          (spends-then vs (value u) (λ b. done (x.value ∷ b.value ∷ [])) c m (8 + 27 * parts_in pu) (reductions_in pu) (wholes_in pu) 0 0 0 (priced-costs vs _ _ _ _ v) (spends-done vs (x.value ∷ y.value ∷ []) c (m + numbers_of (value u c m).ops))) in
           record { light = costs.light; size = omega (arith, costs.size); reductions = omega (arith, costs.reductions); wholes = omega (arith, costs.wholes) }
-      one-bounded (bounds.Both l u) n i f h =
+
+      both-bounded : (l u : Expr) (n : ℕ) → Valued vs (value l c n) (p.pieces t false false l) → Valued vs (value u c (n + numbers_of (value l c n).ops)) (p.pieces t false false u) → Bounded (bounds_of (bounds.Both l u) c n) 1 (p.pieces t false false l ++ p.pieces t false false u)
+      unfolding bounds_of ◌then◌ done
+      both-bounded l u n w v =
           let m = n + numbers_of (value l c n).ops in
-          let k = m + numbers_of (value u c m).ops in
           let x = (value l c n).made in
           let y = (value u c m).made in
           let pl = p.pieces t false false l in
           let pu = p.pieces t false false u in
-          let h1 = then-rest vs (value l) (λ a. value u then (λ b. done (a.value ∷ b.value ∷ []))) c n h in
-          let w = side-valued types kinds found vs t false false c knows' here' line n l i.0 (none_first _ _ (none_first _ _ f)) (then-first vs (value l) (λ a. value u then (λ b. done (a.value ∷ b.value ∷ []))) c n h) in
-          let v = side-valued types kinds found vs t false false c knows' here' line m u i.1 (none_first _ _ (none_after _ _ f)) (then-first vs (value u) (λ b. done (x.value ∷ b.value ∷ [])) c m h1) in
           let costs = spends-then vs (value l) (λ a. value u then (λ b. done (a.value ∷ b.value ∷ []))) c n (8 + 27 * parts_in pl) (reductions_in pl) (wholes_in pl) ((8 + 27 * parts_in pu) + 0) (reductions_in pu + 0) (wholes_in pu + 0) (priced-costs vs _ _ _ _ w)
-          (spends-then vs (value u) (λ b. done (x.value ∷ b.value ∷ [])) c m (8 + 27 * parts_in pu) (reductions_in pu) (wholes_in pu) 0 0 0 (priced-costs vs _ _ _ _ v) (spends-done vs (x.value ∷ y.value ∷ []) c k)) in
+          (spends-then vs (value u) (λ b. done (x.value ∷ b.value ∷ [])) c m (8 + 27 * parts_in pu) (reductions_in pu) (wholes_in pu) 0 0 0 (priced-costs vs _ _ _ _ v) (spends-done vs (x.value ∷ y.value ∷ []) c (m + numbers_of (value u c m).ops))) in
           record { light = costs.light; size = omega (arith, costs.size, parts-append pl pu); reductions = omega (arith, costs.reductions, reductions-append pl pu); wholes = omega (arith, costs.wholes, wholes-append pl pu) }
-      one-bounded bounds.Deferred n i f h = record { light = omega arith; size = omega arith; reductions = omega arith; wholes = omega arith }
 
-      all-bounded : (bs : List Bound) (n : ℕ) → All IsBound bs → allocated_bounds_faults t line bs ≡ [] → Holds vs n (all_bounds bs c n).ops → Bounded (all_bounds bs c n) (length bs) (flat_map (bound_pieces t) bs)
-      unfolding all_bounds ◌then◌ done
-      all-bounded [] n i f h = record { light = omega arith; size = omega arith; reductions = omega arith; wholes = omega arith }
-      all-bounded (b ∷ bs) n i f h =
-          let q : Lowering (List ValueId) = bounds_of b in
+      bounded-step : (n j k : ℕ) (q r : Lowering (List ValueId)) (ps qs : List Piece) → Bounded (q c n) j ps → Bounded (r c (n + numbers_of (q c n).ops)) k qs → Bounded ((q then (λ us. r then (λ ws. done (us ++ ws)))) c n) (j + k) (ps ++ qs)
+      unfolding ◌then◌ done
+      bounded-step n j k q r ps qs first rest =
           let m = n + numbers_of (q c n).ops in
           let xs = (q c n).made in
-          let ys = (all_bounds bs c m).made in
-          let h1 = then-rest vs q (λ us. all_bounds bs then (λ ws. done (us ++ ws))) c n h in
-          let first = one-bounded b n (All-head IsBound b bs i) (none_first _ _ f) (then-first vs q (λ us. all_bounds bs then (λ ws. done (us ++ ws))) c n h) in
-          let rest = all-bounded bs m (All-tail IsBound b bs i) (none_after _ _ f) (then-first vs (all_bounds bs) (λ ws. done (xs ++ ws)) c m h1) in
-          let ps = bound_pieces t b in
-          let qs = flat_map (bound_pieces t) bs in
-          let costs = spends-then vs q (λ us. all_bounds bs then (λ ws. done (us ++ ws))) c n (total size (q c n).ops) (reductions_in ps) (wholes_in ps) (total size (all_bounds bs c m).ops + 0) (reductions_in qs + 0) (wholes_in qs + 0)
+          let ys = (r c m).made in
+          let costs = spends-then vs q (λ us. r then (λ ws. done (us ++ ws))) c n (total size (q c n).ops) (reductions_in ps) (wholes_in ps) (total size (r c m).ops + 0) (reductions_in qs + 0) (wholes_in qs + 0)
           (record { light = first.light; size = omega arith; reductions = first.reductions; wholes = first.wholes })
-          (spends-then vs (all_bounds bs) (λ ws. done (xs ++ ws)) c m (total size (all_bounds bs c m).ops) (reductions_in qs) (wholes_in qs) 0 0 0 (record { light = rest.light; size = omega arith; reductions = rest.reductions; wholes = rest.wholes }) (spends-done vs (xs ++ ys) c (m + numbers_of (all_bounds bs c m).ops))) in
+          (spends-then vs r (λ ws. done (xs ++ ws)) c m (total size (r c m).ops) (reductions_in qs) (wholes_in qs) 0 0 0 (record { light = rest.light; size = omega arith; reductions = rest.reductions; wholes = rest.wholes }) (spends-done vs (xs ++ ys) c (m + numbers_of (r c m).ops))) in
           record {
             light = costs.light;
             size = omega (arith, costs.size, first.size, rest.size, length-append xs ys, parts-append ps qs);
@@ -221,21 +211,62 @@ module _ (types : TypesAreKnown) (kinds : KindsAreTypes) (found : ValuesAreFound
             wholes = omega (arith, costs.wholes, wholes-append ps qs);
           }
 
+      bounded-more : (r : Lowered (List ValueId)) (j k : ℕ) (ps : List Piece) → j ≡ k → Bounded r j ps → Bounded r k ps
+      bounded-more r j k ps is h = subst (λ i. Bounded r i ps) is h
+
+      module _ (knows' : Knows t c) (here' : ScopeIsFound vs c) where
+        one-bounded : (b : Bound) (n : ℕ) → IsBound b → allocated_bound_faults t line b ≡ [] → Holds vs n (bounds_of b c n).ops → Bounded (bounds_of b c n) 1 (bound_pieces t b)
+        unfolding bounds_of done
+        one-bounded (bounds.Upper u) n i f h =
+            let one : Lowering Operand = constant I32 (pos 1) in
+            let m = n + numbers_of (one c n).ops in
+            let x = (one c n).made in
+            let h1 = then-rest vs one (λ a. value u then (λ b. done (a.value ∷ b.value ∷ []))) c n h in
+            upper-bounded u n (side-valued types kinds found vs t false false c knows' here' line m u i (none_first _ _ f) (then-first vs (value u) (λ b. done (x.value ∷ b.value ∷ [])) c m h1))
+        one-bounded (bounds.Both l u) n i f h =
+            let m = n + numbers_of (value l c n).ops in
+            let x = (value l c n).made in
+            let h1 = then-rest vs (value l) (λ a. value u then (λ b. done (a.value ∷ b.value ∷ []))) c n h in
+            both-bounded l u n
+            (side-valued types kinds found vs t false false c knows' here' line n l i.0 (none_first _ _ (none_first _ _ f)) (then-first vs (value l) (λ a. value u then (λ b. done (a.value ∷ b.value ∷ []))) c n h))
+            (side-valued types kinds found vs t false false c knows' here' line m u i.1 (none_first _ _ (none_after _ _ f)) (then-first vs (value u) (λ b. done (x.value ∷ b.value ∷ [])) c m h1))
+        one-bounded bounds.Deferred n i f h = record { light = omega arith; size = omega arith; reductions = omega arith; wholes = omega arith }
+
+        all-bounded : (bs : List Bound) (n : ℕ) → All IsBound bs → allocated_bounds_faults t line bs ≡ [] → Holds vs n (all_bounds bs c n).ops → Bounded (all_bounds bs c n) (length bs) (flat_map (bound_pieces t) bs)
+        unfolding all_bounds done
+        all-bounded [] n i f h = record { light = omega arith; size = omega arith; reductions = omega arith; wholes = omega arith }
+        all-bounded (b ∷ bs) n i f h =
+            let q : Lowering (List ValueId) = bounds_of b in
+            let m = n + numbers_of (q c n).ops in
+            let h1 = then-rest vs q (λ us. all_bounds bs then (λ ws. done (us ++ ws))) c n h in
+            bounded-more (all_bounds (b ∷ bs) c n) (1 + length bs) (length (b ∷ bs)) (flat_map (bound_pieces t) (b ∷ bs)) (one_longer b bs)
+            (bounded-step n 1 (length bs) q (all_bounds bs) (bound_pieces t b) (flat_map (bound_pieces t) bs)
+            (one-bounded b n (All-head IsBound b bs i) (none_first _ _ f) (then-first vs q (λ us. all_bounds bs then (λ ws. done (us ++ ws))) c n h))
+            (all-bounded bs m (All-tail IsBound b bs i) (none_after _ _ f) (then-first vs (all_bounds bs) (λ ws. done ((q c n).made ++ ws)) c m h1)))
+
+    -- the op of one array
+    allocated-passes : (also : Bool) (x : Part) (c : Scope) (n : ℕ) → IsSmallPart x → AreWithin (part_pieces t x) all → Bounded (all_bounds x.shape c n) (length x.shape) (part_pieces t x) →
+        Passing vs a (op_of (what.Allocmem also) line ((declare_of s.names x.name).value ∷ []) None (region_of (all_yielded (all_bounds x.shape) c n).ops ∷ []) ∷ [])
+    allocated-passes also x c n small within r =
+        let op : What = what.Allocmem also in
+        let os = (declare_of s.names x.name).value ∷ [] in
+        let ops = (all_yielded (all_bounds x.shape) c n).ops in
+        let ps = part_pieces t x in
+        let costs : Costs vs ops (55 + 27 * parts_in ps) (reductions_in ps) (wholes_in ps) = costs-weaker vs _ _ _ _ (55 + 27 * parts_in ps) (reductions_in ps) (wholes_in ps)
+        (spends-all_yielded vs (all_bounds x.shape) c n (total size (all_bounds x.shape c n).ops) (reductions_in ps) (wholes_in ps) (record { light = r.light; size = omega arith; reductions = r.reductions; wholes = r.wholes }))
+        (omega (arith, r.size, small.0)) (omega arith) (omega arith) in
+        passing-op vs a op line os None (region_of ops ∷ []) (λ before. first-region-fits vs op line os ops [] (55 + 27 * parts_in ps) ps all costs (omega (arith, within.parts, ok.parts)) within ok)
+        (regions-more vs a op 0 ops [] (passing-light vs (around_in a op 0) ops costs.light) (regions-none vs a op 1))
+
     allocate-one : (also : Bool) (x : Part) (n : ℕ) → IsPart x → IsSmallPart x → allocation_faults t line x ≡ [] → AreWithin (part_pieces t x) all → Holds vs n (allocation line also x s n).ops → Passing vs a (allocation line also x s n).ops
     unfolding allocation scoped statement_of
     allocate-one also x n i small f within h =
         let op : What = what.Allocmem also in
-        let os = (declare_of s.names x.name).value ∷ [] in
         let scope = inside op line 0 (n + 0) s in
         let ops = (all_yielded (all_bounds x.shape) scope (n + 0 + 0)).ops in
-        let held = region-there vs (n + 0) op 0 ops [] (regions-there vs n op line os None (region_of ops ∷ []) h) in
-        let ps = part_pieces t x in
-        let r = all-bounded scope (knows-moved t s scope.masked scope.line knows) (found-moved vs s scope.masked scope.line here) x.shape (n + 0 + 0) i.1 (none_after _ _ f) (then-first vs (all_bounds x.shape) (λ ws. acting what.Yield ws) scope (n + 0 + 0) held) in
-        let costs : Costs vs ops (55 + 27 * parts_in ps) (reductions_in ps) (wholes_in ps) = costs-weaker vs _ _ _ _ (55 + 27 * parts_in ps) (reductions_in ps) (wholes_in ps)
-        (spends-all_yielded vs (all_bounds x.shape) scope (n + 0 + 0) (total size (all_bounds x.shape scope (n + 0 + 0)).ops) (reductions_in ps) (wholes_in ps) (record { light = r.light; size = omega arith; reductions = r.reductions; wholes = r.wholes }))
-        (omega (arith, r.size, small.0)) (omega arith) (omega arith) in
-        passing-op vs a op line os None (region_of ops ∷ []) (λ before. first-region-fits vs op line os ops [] (55 + 27 * parts_in ps) ps all costs (omega (arith, within.parts, ok.parts)) within ok)
-        (regions-more vs a op 0 ops [] (passing-light vs (around_in a op 0) ops costs.light) (regions-none vs a op 1))
+        let held = region-there vs (n + 0) op 0 ops [] (regions-there vs n op line ((declare_of s.names x.name).value ∷ []) None (region_of ops ∷ []) h) in
+        allocated-passes also x scope (n + 0 + 0) small within
+        (all-bounded scope (knows-moved t s scope.masked scope.line knows) (found-moved vs s scope.masked scope.line here) x.shape (n + 0 + 0) i.1 (none_after _ _ f) (then-first vs (all_bounds x.shape) (λ ws. acting what.Yield ws) scope (n + 0 + 0) held))
 
     pub parts-allocated : (k : ℕ) (xs : List Part) (n : ℕ) → All IsPart xs → All IsSmallPart xs → allocations_faults t line xs ≡ [] → AreWithin (allocate_pieces t xs) all → Holds vs n (in_turn (λ j. allocation line (nat_lt 0 j)) k xs s n).ops → Passing vs a (in_turn (λ j. allocation line (nat_lt 0 j)) k xs s n).ops
     unfolding in_turn done ◌then◌

@@ -1,6 +1,5 @@
 -- Costs of expressions as they stand in statements, in regions that yield.
-use Rattle.std.proofs.Common.{◌≡◌, refl, sym, ap, ◌∙◌, subst, ℕ, suc, ◌+◌, ◌*◌, ◌≤◌, Bool, true, false, List, [], ◌∷◌, ◌++◌, length, inl, inr, ◌⊎◌, arith}
-use Rattle.std.specs.Prelude.{⊤}
+use Rattle.std.proofs.Common.{◌≡◌, refl, subst, ℕ, suc, ◌+◌, ◌*◌, Bool, true, false, List, [], ◌∷◌, length, inl, inr, arith}
 use Rattle.ws_base.specs.declared.name.Name.{Name}
 use Rattle.ws_base.specs.declared.refusal.RefusalKind.TheVariants as refusal
 use Rattle.ws_tree.specs.declared.expr.Expr.{Expr}
@@ -18,17 +17,17 @@ use Rattle.hlfir_ops.specs.Numbers.{numbers_of}
 use Rattle.hlfir_ops.specs.RulesValues.{Value}
 use Rattle.lower_assign.specs.declared.operand.Operand.{Operand}
 use Rattle.lower_assign.specs.Scopes.{Scope}
-use Rattle.lower_assign.specs.Lowerings.{Lowering, done, ◌>>=◌ as ◌then◌, scoped, acting}
+use Rattle.lower_assign.specs.Lowerings.{Lowering, ◌>>=◌ as ◌then◌, scoped, acting}
 use Rattle.lower_assign.specs.References.{declare_of}
-use Rattle.lower_assign.specs.Values.{value, part_of, subscripts}
-use Rattle.lower_assign.specs.Statements.{yielded, all_yielded, whole_left, left_of, left, item}
+use Rattle.lower_assign.specs.Values.{value}
+use Rattle.lower_assign.specs.Statements.{yielded, all_yielded, whole_left, left_of, left}
 use Rattle.small_laws.proofs.NoFaults.{none_first, none_after, impossible}
 use Rattle.kind_laws.specs.Standing.{Knows}
 use Rattle.kind_laws.specs.Found.{Holds, ScopeIsFound}
 use Rattle.kind_laws.specs.Laws.{TypesAreKnown, KindsAreTypes, ValuesAreFound}
-use Rattle.limit_laws.specs.Costs.{Costs, Priced}
+use Rattle.limit_laws.proofs.Costs.{Costs}
 use Rattle.limit_laws.proofs.Costing.{Spends, costs-weaker, spends-done, spends-then, spends-acting}
-use Rattle.limit_laws.proofs.Held.{then-first, then-rest}
+use Rattle.limit_laws.proofs.Held.{then-first}
 use Rattle.limit_laws.proofs.Operations.{priced-costs}
 use Rattle.limit_laws.proofs.References.{spends-boxed}
 use Rattle.limit_laws.proofs.Bounded.{Valued}

@@ -1,5 +1,5 @@
 -- One form of expression after another: from the costs of its parts, those of the whole.
-use Rattle.std.proofs.Common.{◌≡◌, refl, sym, ap, ◌∙◌, subst, ℕ, suc, ◌+◌, ◌*◌, ◌≤◌, ◌<◌, nat_le, Bool, true, false, List, [], ◌∷◌, ◌++◌, length, Option, Some, None, arith}
+use Rattle.std.proofs.Common.{◌≡◌, refl, ap, ℕ, ◌+◌, ◌*◌, nat_le, Bool, true, false, List, [], ◌∷◌, ◌++◌, length, Option, Some, None, arith}
 use Rattle.std.specs.List.{flat_map}
 use Rattle.std.proofs.lemmas.List.{length-append}
 use Rattle.ws_base.specs.declared.name.Name.{Name}
@@ -11,7 +11,6 @@ use Rattle.ws_counts.specs.declared.tally.Piece.TheVariants as piece
 use Rattle.ws_counts.specs.Counts.{parts_in, reductions_in, wholes_in}
 use Rattle.ws_counts.specs.Pieces.{call_pieces, subscript_pieces}
 use Rattle.hlfir_ops.specs.declared.what.ValueBinary.{ValueBinary}
-use Rattle.hlfir_ops.specs.declared.op.ValueId.{ValueId}
 use Rattle.hlfir_ops.specs.Numbers.{numbers_of}
 use Rattle.hlfir_ops.specs.RulesValues.{Value, is_whole, value_at}
 use Rattle.hlfir_ops.specs.RulesLimits.{item_limit}
@@ -23,8 +22,8 @@ use Rattle.lower_assign.specs.Lowerings.{Lowering, Lowered, done, ◌>>=◌ as �
 use Rattle.lower_assign.specs.Operations.{values_of, binary_operation, in_parentheses, unary_operation, joined, call_on, vector}
 use Rattle.lower_assign.specs.References.{or_nothing, reference, loaded, subscript_of, sub_values, designated}
 use Rattle.lower_assign.specs.Values.{part_of}
-use Rattle.limit_laws.specs.Costs.{total, heavy, size, reduces, wholes, wholes_among, one_if, Costs, slack, IsProper, Priced}
-use Rattle.limit_laws.proofs.Costing.{costs-weaker, spends-done, spends-then}
+use Rattle.limit_laws.proofs.Costs.{total, size, wholes, wholes_among, one_if, Costs, slack, IsProper, Priced}
+use Rattle.limit_laws.proofs.Costing.{spends-done, spends-then}
 use Rattle.limit_laws.proofs.Operations.{priced-weaker, priced-costs, priced-binary, priced-unary, priced-parentheses, priced-joined, slack-few}
 use Rattle.limit_laws.proofs.References.{spends-reference, priced-then, priced-loaded, priced-designated}
 use Rattle.limit_laws.proofs.Pieces.{parts-append, reductions-append, wholes-append, call-counts, subscript-counts}

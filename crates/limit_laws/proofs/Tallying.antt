@@ -1,5 +1,5 @@
 -- What the code counts of a statement, as lower bounds: they reach these numbers as far as they go.
-use Rattle.std.proofs.Common.{◌≡◌, refl, sym, ap, ◌∙◌, subst, ℕ, suc, ◌+◌, ◌*◌, ◌≤◌, min, max, Bool, true, false, List, [], ◌∷◌, ◌++◌, arith, if◌then◌else◌}
+use Rattle.std.proofs.Common.{◌≡◌, refl, ℕ, ◌+◌, ◌*◌, ◌≤◌, min, max, Bool, true, false, List, [], ◌∷◌, ◌++◌, arith, if◌then◌else◌}
 use Rattle.ws_base.specs.declared.op.CallWord.{CallWord}
 use Rattle.ws_tree.specs.declared.expr.Expr.{Expr}
 use Rattle.ws_tree.specs.declared.expr.Expr.TheVariants.{Number, TooWide, TooDeep, Truth, Named, Part', Call', Vector'}
@@ -10,9 +10,9 @@ use Rattle.ws_types.specs.Operations.{is_reduction}
 use Rattle.ws_counts.specs.declared.tally.Piece.{Piece}
 use Rattle.ws_counts.specs.declared.tally.Piece.TheVariants as piece
 use Rattle.ws_counts.specs.declared.tally.Tally.{Tally}
-use Rattle.ws_counts.specs.Counts.{reductions_in, wholes_in, masks_in}
+use Rattle.ws_counts.specs.Counts.{reductions_in, wholes_in}
 use Rattle.ws_counts.specs.Pieces as p
-use Rattle.ws_counts.specs.Tallies.{most, counted, tallied}
+use Rattle.ws_counts.specs.Tallies.{counted, tallied}
 use Rattle.limit_laws.proofs.Counting.{if_so, if_not}
 
 pub record Reaches (k : Tally) (p t h q : ℕ) : Type 0 where

@@ -1,14 +1,14 @@
 -- Totals over ops one after another, and over an op by its parts.
-use Rattle.std.proofs.Common.{◌≡◌, refl, sym, ap, ◌∙◌, ℕ, ◌+◌, List, [], ◌∷◌, ◌++◌, Option, add_assoc, zero-add, add-zero, append-nil}
+use Rattle.std.proofs.Common.{◌≡◌, sym, ap, ◌∙◌, ℕ, ◌+◌, List, [], ◌∷◌, ◌++◌, Option, add_assoc, zero-add, append-nil}
 use Rattle.hlfir_ops.specs.declared.kinds.ValueKind.{ValueKind}
 use Rattle.hlfir_ops.specs.declared.what.What.{What}
 use Rattle.hlfir_ops.specs.declared.op.ValueId.{ValueId}
-use Rattle.hlfir_ops.specs.declared.op.Op.{Op, Op-F, out-Op, roll-Op, out-roll-Op}
-use Rattle.hlfir_ops.specs.declared.op.Region.{Region, out-Region, out-roll-Region}
+use Rattle.hlfir_ops.specs.declared.op.Op.{Op, Op-F, roll-Op, out-roll-Op}
+use Rattle.hlfir_ops.specs.declared.op.Region.{Region, out-roll-Region}
 use Rattle.hlfir_ops.specs.Trees.{op_of, region_of}
 use Rattle.hlfir_ops.specs.Numbers.{op_order, order_of, order_in}
 use Rattle.hlfir_ops.proofs.Order.{op_order-parts, order_of-append}
-use Rattle.limit_laws.specs.Costs.{Weight, weight, sum_of, total, total_in}
+use Rattle.limit_laws.proofs.Costs.{Weight, weight, sum_of, total, total_in}
 
 pub sum-append : (g : Weight) (xs ys : List Op) → sum_of g (xs ++ ys) ≡ sum_of g xs + sum_of g ys
 sum-append g [] ys = sym (zero-add (sum_of g ys))

@@ -1,5 +1,5 @@
 -- The costs of each expression in which no rule is broken are bounded by its pieces.
-use Rattle.std.proofs.Common.{◌≡◌, refl, sym, ap, ◌∙◌, subst, ℕ, suc, ◌+◌, ◌*◌, ◌≤◌, ◌<◌, nat_le, Bool, true, false, List, [], ◌∷◌, ◌++◌, length, Option, Some, None, arith, if◌then◌else◌}
+use Rattle.std.proofs.Common.{◌≡◌, sym, subst, ℕ, suc, ◌+◌, ◌*◌, ◌≤◌, Bool, true, List, [], ◌∷◌, ◌++◌, length, Option, Some, None, arith, if◌then◌else◌}
 use Rattle.std.specs.Prelude.{pos}
 use Rattle.std.specs.List.{flat_map}
 use mathlib.Core.Former.{Count}
@@ -19,11 +19,9 @@ use Rattle.ws_types.specs.declared.types.Row.{Row}
 use Rattle.ws_types.specs.Kinds.{when}
 use Rattle.ws_types.specs.Constants.{constancy}
 use Rattle.ws_types.specs.Names.{standing_of}
-use Rattle.ws_types.specs.Operations as types
-use Rattle.ws_types.specs.Expressions.{listed, how_many, typed, faults, all_faults, subs_faults, sub_faults, given_faults, named_faults, named_type}
+use Rattle.ws_types.specs.Expressions.{listed, how_many, faults, all_faults, subs_faults, sub_faults, given_faults, named_faults, named_type}
 use Rattle.ws_types.specs.Operations.{part_faults}
 use Rattle.ws_counts.specs.declared.tally.Piece.{Piece}
-use Rattle.ws_counts.specs.declared.tally.Piece.TheVariants as piece
 use Rattle.ws_counts.specs.Counts.{parts_in, reductions_in, wholes_in}
 use Rattle.ws_counts.specs.Pieces as p
 use Rattle.hlfir_ops.specs.declared.kinds.Elem.TheVariants.{I32, I1}
@@ -31,23 +29,22 @@ use Rattle.hlfir_ops.specs.declared.what.BoundWord.TheVariants.{Lower, Upper}
 use Rattle.hlfir_ops.specs.declared.what.ValueBinary.{ValueBinary}
 use Rattle.hlfir_ops.specs.declared.what.ValueBinary.TheVariants as op
 use Rattle.hlfir_ops.specs.Numbers.{numbers_of}
-use Rattle.hlfir_ops.specs.RulesValues.{Value, is_whole, value_at}
+use Rattle.hlfir_ops.specs.RulesValues.{Value}
 use Rattle.lower_assign.specs.declared.operand.Operand.{Operand}
-use Rattle.lower_assign.specs.declared.operand.Subscript.{Subscript}
 use Rattle.lower_assign.specs.declared.operand.Subscript.TheVariants.{Range}
 use Rattle.lower_assign.specs.Scopes.{Scope}
-use Rattle.lower_assign.specs.Lowerings.{Lowering, Lowered, done, ◌>>=◌ as ◌then◌, scoped, giving}
+use Rattle.lower_assign.specs.Lowerings.{Lowering, Lowered, done, ◌>>=◌ as ◌then◌, scoped}
 use Rattle.lower_assign.specs.Operations.{constant, binary_of, binary_operation, in_parentheses, unary_operation, joined, call_on, vector}
-use Rattle.lower_assign.specs.References.{or_nothing, reference, loaded, named, subscript_of, sub_values, bound, designated}
+use Rattle.lower_assign.specs.References.{reference, loaded, named, subscript_of, sub_values, bound, designated}
 use Rattle.lower_assign.specs.Values.{folded, part_of, value, values, nested, subscripts, subscript, given_or}
-use Rattle.small_laws.proofs.NoFaults.{none_first, none_after, allowed, impossible}
+use Rattle.small_laws.proofs.NoFaults.{none_first, none_after, allowed}
 use Rattle.kind_laws.specs.Standing.{Knows}
 use Rattle.kind_laws.specs.Found.{Holds, ScopeIsFound}
 use Rattle.kind_laws.specs.Laws.{TypesAreKnown, KindsAreTypes, ValuesAreFound}
-use Rattle.limit_laws.specs.Costs.{IsProper, Priced}
+use Rattle.limit_laws.proofs.Costs.{Priced}
 use Rattle.limit_laws.proofs.Held.{then-first, then-rest}
 use Rattle.limit_laws.proofs.Operations.{priced-weaker, priced-constant}
-use Rattle.limit_laws.proofs.References.{spends-reference, priced-named, priced-inquiry, reference-whole}
+use Rattle.limit_laws.proofs.References.{priced-named, priced-inquiry, reference-whole}
 use Rattle.limit_laws.proofs.Pieces.{parts-append, reductions-append, wholes-append}
 use Rattle.limit_laws.proofs.Bounded.{Valued, Listed, Subscripted, Apart, BeforeIsProper, part_variable, some_subs, few_at, few_items, values-length, folded_case, bound-apart, stride-apart}
 use Rattle.limit_laws.proofs.Steps.{paren-step, unary-step, binary-step, listed-none, listed-step, vector-step, call-step, nested-none, nested-step, one-step, range-step, subs-none, subs-step, part-step, load-step}

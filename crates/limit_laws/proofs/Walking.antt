@@ -1,16 +1,15 @@
 -- The ops of a statement are counted below its pieces, step by step.
-use Rattle.std.proofs.Common.{◌≡◌, refl, sym, ap, ◌∙◌, subst, ℕ, suc, ◌+◌, ◌*◌, ◌≤◌, min, max, Bool, true, false, List, [], ◌∷◌, ◌++◌, length, Option, None, arith, if◌then◌else◌, append-nil}
+use Rattle.std.proofs.Common.{◌≡◌, refl, sym, ap, ◌∙◌, subst, ℕ, suc, ◌+◌, ◌*◌, ◌≤◌, max, Bool, true, false, List, [], ◌∷◌, ◌++◌, length, Option, None, arith, if◌then◌else◌, append-nil}
 use Rattle.hlfir_ops.specs.declared.what.What.{What}
 use Rattle.hlfir_ops.specs.declared.what.What.TheVariants as what
 use Rattle.hlfir_ops.specs.declared.kinds.ValueKind.{ValueKind}
 use Rattle.hlfir_ops.specs.declared.op.ValueId.{ValueId}
-use Rattle.hlfir_ops.specs.declared.op.Op.{Op, Op-F, out-Op, roll-Op, out-roll-Op}
+use Rattle.hlfir_ops.specs.declared.op.Op.{Op, Op-F, out-roll-Op}
 use Rattle.hlfir_ops.specs.declared.op.Region.{Region}
 use Rattle.hlfir_ops.specs.Trees.{op_of, region_of}
 use Rattle.hlfir_ops.specs.Numbers.{order_of, order_in}
 use Rattle.hlfir_ops.specs.RulesValues.{Value}
 use Rattle.hlfir_ops.specs.RulesLimits.{Count, ended, after_assignment, with_mask, with_assignment, with_header, counted_as, counted, counted_all}
-use Rattle.hlfir_ops.proofs.Order.{order_of-append}
 use Rattle.ws_counts.specs.declared.tally.Piece.{Piece}
 use Rattle.ws_counts.specs.declared.tally.Piece.TheVariants as piece
 use Rattle.ws_counts.specs.declared.tally.Tally.{Tally}
@@ -18,10 +17,10 @@ use Rattle.ws_counts.specs.Counts.{how_many, is_mask, parts_in, reductions_in, w
 use Rattle.ws_counts.specs.Tallies.{tallied}
 use Rattle.ws_counts.specs.Tallies as tallies
 use Rattle.ws_counts.proofs.Tallied.{tallied-append}
-use Rattle.limit_laws.specs.Costs.{total, total_in, sum_of, heavy, size, reduces, wholes, Costs}
-use Rattle.limit_laws.proofs.Totals.{total-append, total-op, total-region, order-op, order-region, sum-append}
+use Rattle.limit_laws.proofs.Costs.{total_in, sum_of, heavy, size, reduces, wholes, Costs}
+use Rattle.limit_laws.proofs.Totals.{total-op, order-op, order-region, sum-append}
 use Rattle.limit_laws.proofs.Pieces.{how_many-append, parts-append, reductions-append, wholes-append}
-use Rattle.limit_laws.proofs.Counting.{Adds, adds-light, counted-append}
+use Rattle.limit_laws.proofs.Counting.{adds-light, counted-append}
 use Rattle.limit_laws.proofs.Tallying.{Reaches, reaches-less, reaches-mask, reaches-assigned, AreValuePieces, both_values, reaches-values, begun-values}
 use Rattle.limit_laws.proofs.Sides.{SideCosts}
 

@@ -1,47 +1,41 @@
 -- All that stands in a WHERE.
-use Rattle.std.proofs.Common.{◌≡◌, refl, sym, ap, ◌∙◌, subst, ℕ, suc, ◌+◌, ◌<◌, ◌≤◌, not, ◌&&◌, Bool, true, false, List, [], ◌∷◌, ◌++◌, Option, Some, None, arith, append-nil}
+use Rattle.std.proofs.Common.{◌≡◌, refl, sym, ◌∙◌, subst, ℕ, ◌+◌, ◌≤◌, not, ◌&&◌, true, false, List, [], ◌∷◌, ◌++◌, Option, Some, None, arith, append-nil}
 use Rattle.std.specs.Prelude.{⊤}
 use mathlib.Core.Former.{Count}
 use Rattle.ws_base.specs.declared.refusal.RefusalKind.TheVariants as refusal
 use Rattle.ws_tree.specs.declared.expr.Expr.{Expr}
 use Rattle.ws_tree.specs.declared.stmt.Body.{Body}
 use Rattle.ws_tree.specs.declared.stmt.Body.TheVariants.{Assign, Masked', Forall', Loop', Allocate, Deallocate, Read, Shared', Unsupported, TooDeep}
-use Rattle.ws_tree.specs.declared.stmt.Else.{Else, Else'}
+use Rattle.ws_tree.specs.declared.stmt.Else.{Else'}
 use Rattle.ws_tree.specs.Trees.{Stmts, end_stmts, more_stmts, Elses, end_elses, more_elses}
-use Rattle.ws_tree.specs.Grammatical.{IsSide, HasNoElse}
+use Rattle.ws_tree.specs.Grammatical.{IsSide}
 use Rattle.ws_types.specs.declared.types.Row.{Row}
 use Rattle.ws_types.specs.Expressions.{faults}
-use Rattle.ws_counts.specs.declared.tally.Piece.{Piece}
-use Rattle.ws_counts.specs.declared.tally.Piece.TheVariants as piece
 use Rattle.ws_counts.specs.Pieces as p
-use Rattle.ws_sema.specs.declared.within.Within.{Within}
 use Rattle.ws_sema.specs.declared.within.Within.TheVariants as within
-use Rattle.ws_sema.specs.Statements.{under, mask_rank, body_faults, block_faults, elses_faults, else_control}
+use Rattle.ws_sema.specs.Statements.{mask_rank, body_faults, block_faults, elses_faults}
 use Rattle.hlfir_ops.specs.declared.what.What.TheVariants as what
-use Rattle.hlfir_ops.specs.declared.op.Op.{Op}
-use Rattle.hlfir_ops.specs.declared.op.Region.{Region}
-use Rattle.hlfir_ops.specs.Trees.{op_of, region_of}
+use Rattle.hlfir_ops.specs.Trees.{region_of}
 use Rattle.hlfir_ops.specs.Numbers.{numbers_of, order_of, order_in}
-use Rattle.hlfir_ops.specs.RulesValues.{Value, values_in}
+use Rattle.hlfir_ops.specs.RulesValues.{Value}
 use Rattle.hlfir_ops.specs.RulesPlaces.{Around, around_in}
 use Rattle.lower_assign.specs.Scopes.{Scope, inside}
-use Rattle.lower_assign.specs.Lowerings.{Lowering, done, ◌>>=◌ as ◌then◌, scoped, statement_of, regions_from}
+use Rattle.lower_assign.specs.Lowerings.{Lowering, done, ◌>>=◌ as ◌then◌, scoped, statement_of}
 use Rattle.lower_assign.specs.Values.{value}
 use Rattle.lower_assign.specs.Statements.{yielded, is_whole_allocatable, assignment}
-use Rattle.lower_constructs.specs.Modules.{third, elsewhere, statement, statements, elsewheres}
+use Rattle.lower_constructs.specs.Modules.{elsewhere, statement, statements, elsewheres}
 use Rattle.small_laws.proofs.NoFaults.{none_first, none_after, impossible}
 use Rattle.kind_laws.specs.Standing.{Knows}
 use Rattle.kind_laws.specs.Found.{Holds, ScopeIsFound}
 use Rattle.kind_laws.specs.Laws.{TypesAreKnown, KindsAreTypes, ValuesAreFound}
-use Rattle.limit_laws.specs.Costs.{total_in, size}
-use Rattle.limit_laws.proofs.Totals.{order-region, total-region}
-use Rattle.limit_laws.proofs.Held.{HoldsValues, then-first, then-rest, regions-there, region-there, rest-there}
-use Rattle.limit_laws.proofs.Passing.{Passing, RegionsPass, passing-light, regions-none, regions-more}
+use Rattle.limit_laws.proofs.Totals.{order-region}
+use Rattle.limit_laws.proofs.Held.{then-first, then-rest, regions-there, region-there, rest-there}
+use Rattle.limit_laws.proofs.Passing.{passing-light, regions-none, regions-more}
 use Rattle.limit_laws.proofs.Tallying.{pieces_are}
-use Rattle.limit_laws.proofs.Walking.{Inner, First, first-inner, inner-none, inner-op, first-masked}
+use Rattle.limit_laws.proofs.Walking.{Inner, first-inner, inner-none, inner-op, first-masked}
 use Rattle.limit_laws.proofs.Scopes.{knows-moved, found-moved}
 use Rattle.limit_laws.proofs.Formed.{IsFormed, AreFormed, AreElsesFormed}
-use Rattle.limit_laws.proofs.Wheres.{StandsIn, BlockStandsIn, ElsesStandIn, assign-first, assign-regions, regions-inner, inner-less, stands-none, stands-more, mask-costs, MaskedStands, masked-stands, assign_passes, masked_passes, elsewhere_passes}
+use Rattle.limit_laws.proofs.Wheres.{StandsIn, BlockStandsIn, ElsesStandIn, assign-first, assign-regions, inner-less, stands-none, stands-more, mask-costs, masked-stands, assign_passes, masked_passes, elsewhere_passes}
 
 module _ (types : TypesAreKnown) (kinds : KindsAreTypes) (found : ValuesAreFound) (vs : List Value) where
   module _ {m : Count} (t : List Row) (line b : ℕ) (block : Stmts m) (s : Scope) (n : ℕ) (a : Around) (knows : Knows t s) (here : ScopeIsFound vs s) (masked : a.masked ≡ true) (low : 1 + a.bodies ≤ b) (each : BlockStandsIn types kinds found vs t b block) where

@@ -1,23 +1,18 @@
 -- Assignments and WHERE, wherever they stand.
-use Rattle.std.proofs.Common.{◌≡◌, refl, sym, ap, ◌∙◌, subst, ℕ, suc, ◌+◌, ◌*◌, ◌<◌, ◌≤◌, ◌||◌, ◌&&◌, not, nat_lt, nat_le, Bool, true, false, List, [], ◌∷◌, ◌++◌, length, Option, Some, None, arith, append-nil, append_assoc, if◌then◌else◌}
+use Rattle.std.proofs.Common.{◌≡◌, refl, sym, ◌∙◌, subst, ℕ, ◌+◌, ◌<◌, ◌≤◌, nat_lt, Bool, true, false, List, [], ◌∷◌, ◌++◌, None, arith, append-nil, append_assoc}
 use Rattle.std.specs.Prelude.{⊤}
 use Rattle.std.proofs.lemmas.Bool.{and_from}
 use mathlib.Core.Former.{Count}
-use Rattle.ws_base.specs.declared.refusal.RefusalKind.TheVariants as refusal
 use Rattle.ws_tree.specs.declared.expr.Expr.{Expr}
-use Rattle.ws_tree.specs.declared.stmt.Body.{Body}
-use Rattle.ws_tree.specs.declared.stmt.Body.TheVariants.{Assign, Masked', Forall', Loop', Allocate, Deallocate, Read, Shared', Unsupported, TooDeep}
-use Rattle.ws_tree.specs.declared.stmt.Else.{Else, Else'}
-use Rattle.ws_tree.specs.Trees.{Stmts, end_stmts, more_stmts, Elses, end_elses, more_elses}
-use Rattle.ws_tree.specs.Grammatical.{IsSide, IsDesignator, HasNoElse}
+use Rattle.ws_tree.specs.Trees.{Stmts, Elses, end_elses, more_elses}
+use Rattle.ws_tree.specs.Grammatical.{IsSide, IsDesignator}
 use Rattle.ws_types.specs.declared.types.Row.{Row}
-use Rattle.ws_types.specs.Expressions.{typed, faults}
+use Rattle.ws_types.specs.Expressions.{faults}
 use Rattle.ws_counts.specs.declared.tally.Piece.{Piece}
 use Rattle.ws_counts.specs.declared.tally.Piece.TheVariants as piece
 use Rattle.ws_counts.specs.Pieces as p
 use Rattle.ws_sema.specs.declared.within.Within.{Within}
-use Rattle.ws_sema.specs.declared.within.Within.TheVariants as within
-use Rattle.ws_sema.specs.Statements.{is_inside, assign_faults, where_mask_faults, under, mask_rank, rank_of, body_faults, block_faults, elses_faults, else_faults}
+use Rattle.ws_sema.specs.Statements.{is_inside, assign_faults}
 use Rattle.hlfir_ops.specs.declared.what.What.{What}
 use Rattle.hlfir_ops.specs.declared.what.What.TheVariants as what
 use Rattle.hlfir_ops.specs.declared.op.Op.{Op}
@@ -27,24 +22,23 @@ use Rattle.hlfir_ops.specs.Numbers.{numbers_of, order_of, order_in}
 use Rattle.hlfir_ops.proofs.Order.{order_of-append}
 use Rattle.hlfir_ops.specs.RulesValues.{Value, values_in}
 use Rattle.hlfir_ops.specs.RulesPlaces.{Around, around_in}
-use Rattle.hlfir_ops.specs.Rules.{own_limits, counts_fit, statement_fits}
+use Rattle.hlfir_ops.specs.Rules.{statement_fits}
 use Rattle.lower_assign.specs.Scopes.{Scope, inside}
-use Rattle.lower_assign.specs.Lowerings.{Lowering, done, ◌>>=◌ as ◌then◌, scoped, statement_of, regions_from, holding}
+use Rattle.lower_assign.specs.Lowerings.{Lowering, regions_from}
 use Rattle.lower_assign.specs.Values.{value}
-use Rattle.lower_assign.specs.Statements.{yielded, left, is_whole_allocatable, assignment}
-use Rattle.lower_constructs.specs.Modules.{third, elsewhere, statement, statements, elsewheres}
-use Rattle.small_laws.proofs.NoFaults.{none_first, none_after, impossible}
+use Rattle.lower_assign.specs.Statements.{yielded, left}
+use Rattle.lower_constructs.specs.Modules.{third, statements, elsewheres}
+use Rattle.small_laws.proofs.NoFaults.{none_first, none_after}
 use Rattle.kind_laws.specs.Standing.{Knows}
 use Rattle.kind_laws.specs.Found.{Holds, ScopeIsFound}
 use Rattle.kind_laws.specs.Laws.{TypesAreKnown, KindsAreTypes, ValuesAreFound}
-use Rattle.limit_laws.proofs.Held.{HoldsValues, then-first, then-rest, regions-there, region-there, rest-there}
+use Rattle.limit_laws.proofs.Held.{HoldsValues, region-there, rest-there}
 use Rattle.limit_laws.proofs.Passing.{Passing, RegionsPass, passing-light, passing-none, passing-append, regions-none, regions-more, passing-op}
 use Rattle.limit_laws.proofs.Tallying.{pieces_are}
-use Rattle.limit_laws.proofs.Walking.{Inner, First, first-inner, inner-none, inner-more, inner-op, first-assign, first-masked, bound, bound-append}
+use Rattle.limit_laws.proofs.Walking.{Inner, First, inner-none, inner-more, first-assign, first-masked}
 use Rattle.limit_laws.proofs.Sides.{SideCosts, side-costs, left-costs}
 use Rattle.limit_laws.proofs.Totals.{order-region}
 use Rattle.limit_laws.proofs.Scopes.{knows-moved, found-moved}
-use Rattle.limit_laws.proofs.Formed.{IsFormed, AreFormed, AreElsesFormed}
 
 -- ops inside a WHERE
 pub record StandsIn (vs : List Value) (a : Around) (ops : List Op) (ps : List Piece) (extra : ℕ) : Type 0 where

@@ -1,7 +1,6 @@
 -- A vector subscript that the ops evaluate whole is one that the source evaluates whole.
-use Rattle.std.proofs.Common.{◌≡◌, refl, sym, ap, ◌∙◌, subst, ℕ, suc, ◌+◌, ◌≤◌, ◌<◌, ◌==◌, ◌&&◌, not, nat_lt, nat_eq, Bool, true, false, List, [], ◌∷◌, ◌++◌, Option, Some, None, arith, true≢false, if◌then◌else◌}
+use Rattle.std.proofs.Common.{◌≡◌, refl, sym, ap, ◌∙◌, subst, ℕ, ◌+◌, ◌≤◌, ◌<◌, ◌&&◌, not, nat_lt, nat_eq, Bool, true, false, List, [], Option, Some, None, arith, true≢false, if◌then◌else◌}
 use Rattle.std.proofs.lemmas.Bool.{ltb-false, false≢true}
-use Rattle.std.specs.Prelude.{pos}
 use Rattle.ws_base.specs.declared.name.Name.{Name}
 use Rattle.ws_base.specs.declared.op.UnOp.TheVariants as un
 use Rattle.ws_tree.specs.declared.expr.Expr.{Expr}
@@ -30,14 +29,14 @@ use Rattle.lower_assign.specs.declared.names.Names.{Names}
 use Rattle.lower_assign.specs.declared.operand.Operand.{Operand}
 use Rattle.lower_assign.specs.Scopes.{Scope, index_of}
 use Rattle.lower_assign.specs.Lowerings.{Lowering, done, ◌>>=◌ as ◌then◌, scoped, giving}
-use Rattle.lower_assign.specs.Operations.{constant, values_of, first_elem, value_of_whole, in_parentheses, vector}
+use Rattle.lower_assign.specs.Operations.{values_of, first_elem, value_of_whole, in_parentheses, vector}
 use Rattle.lower_assign.specs.References.{variable_of, boxed, load_of, loaded, variable_or_truth, index_or_other, named, designated}
 use Rattle.lower_assign.specs.Values.{constant_or, folded, part_of, value, values, subscripts}
 use Rattle.small_laws.proofs.NoFaults.{none_first, none_after, not_broken}
 use Rattle.kind_laws.specs.Standing.{Knows}
-use Rattle.kind_laws.specs.Found.{Holds, Found, ScopeIsFound}
+use Rattle.kind_laws.specs.Found.{Holds, ScopeIsFound}
 use Rattle.kind_laws.specs.Laws.{TypesAreKnown, KindsAreTypes, ValuesAreFound}
-use Rattle.limit_laws.specs.Costs.{IsProper}
+use Rattle.limit_laws.proofs.Costs.{IsProper}
 use Rattle.limit_laws.proofs.Held.{then-first, then-rest, value-there}
 use Rattle.limit_laws.proofs.References.{IsVariable, standing-variable, whole_by_kind, boxed-kind}
 

@@ -1,8 +1,5 @@
 -- Each op of a lowered source keeps the limits.
-use Rattle.std.specs.Prelude.{Bool}
-use Rattle.hlfir_ops.specs.declared.op.Op.{Op}
-use Rattle.hlfir_ops.specs.RulesPlaces.{Place}
-use Rattle.hlfir_ops.specs.Rules.{Facts, limits_fit}
+use Rattle.hlfir_ops.specs.Rules.{limits_fit}
 use Rattle.lower_constructs.specs.Sites.{Test, EveryOpPasses}
 
 abbrev pub limits_test : Test
