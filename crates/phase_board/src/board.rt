@@ -40,7 +40,10 @@ pub struct Board {
     ghost spared: { (length spare.closing ≡ length run.opening) × (length spare.cells ≡ length run.opening) × (length spare.finished ≡ length run.phases) × (length spare.registers.items ≡ 1048576) × (spare.regions < 2 ^ 60) × (spare.units < 2 ^ 60) },
 }
 
-/// A member's token.
+/// So many words are more than a line of a processor's cache and the one that is fetched with it.
+pub(crate) const LINES: usize = 16;
+
+/// A member's token. Its last field is unused: it keeps what two members write on lines of their own.
 #[derive(Drop)]
 pub struct Pass {
     pub(crate) member: u32,
@@ -50,6 +53,7 @@ pub struct Pass {
     pub(crate) seat: Seat<(), View>,
     pub(crate) registers: Vec<i64>,
     pub(crate) alloc: Global,
+    pub(crate) apart: [u64; LINES],
 }
 
 impl Model for Pass {

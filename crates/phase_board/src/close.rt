@@ -83,6 +83,7 @@ impl Board {
                 seat: other,
                 registers: _,
                 alloc: _,
+                apart: _,
             } = pass;
             self.table.shared.join_seat::<Glue>(seat, other);
         }
@@ -107,6 +108,7 @@ impl Board {
             mut seat,
             registers: _,
             alloc: _,
+            apart: _,
         } = last;
         self.glue(&mut seat, passes);
         let Board { run, table, spare } = self;

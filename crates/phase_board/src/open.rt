@@ -9,7 +9,7 @@ ghost use Rattle.phase_board.specs.Rule.{course_of, view, words_of};
 ghost use Rattle.phase_board.specs.Passes.{AreEnough};
 ghost use Rattle.phase_board.specs.Prepared.{AllNew};
 
-use crate::board::{Board, Pass, Spare, Words};
+use crate::board::{Board, LINES, Pass, Spare, Words};
 use crate::memory::Memory;
 use crate::plays::{Cut, Run, View};
 use atomic_table::{Seat, Table};
@@ -72,6 +72,15 @@ fn make_room(alloc: Global, run: &Run) -> Result<Room, AllocError>
     })
 }
 
+/// So many registers, and room behind them, so that what two members write stands on lines of their own.
+fn register_file(alloc: Global, registers: usize) -> Result<Vec<i64>, AllocError>
+    ensures { IfOk result (λ v. length v.items ≡ registers) }
+{
+    let mut file = vec![in alloc; 0; registers]?;
+    file.reserve_exact(LINES)?;
+    Ok(file)
+}
+
 /// A pass for each member, split off the seat, with so many registers.
 fn deal(
     alloc: Global,
@@ -91,7 +100,7 @@ fn deal(
     };
     let mut passes = Vec::with_capacity(alloc, board.run.team as usize)?;
     for member in 0..board.run.team {
-        let file = vec![in alloc; 0; registers]?;
+        let file = register_file(alloc, registers)?;
         let own = board.table.shared.split_seat::<Cut>(&mut seat);
         passes.push(Pass {
             member,
@@ -101,6 +110,7 @@ fn deal(
             seat: own,
             registers: file,
             alloc,
+            apart: [0; LINES],
         })?;
     }
     Ok(passes)
