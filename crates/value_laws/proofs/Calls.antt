@@ -1,5 +1,5 @@
 -- Calls of all their arguments at once: ABS, MOD, MODULO and MERGE.
-use Rattle.std.proofs.Common.{◌≡◌, refl, sym, ap, ◌∙◌, subst, ℕ, ◌≤◌, ◌==◌, true, false, List, [], ◌∷◌, ◌++◌, length, Option, Some, None, Ok, ℤ, arith}
+use Rattle.std.proofs.Common.{◌≡◌, refl, sym, ap, ◌∙◌, subst, ℕ, ◌≤◌, ◌==◌, Bool, true, false, List, [], ◌∷◌, ◌++◌, length, Option, Some, None, Ok, ℤ, arith}
 use Rattle.std.specs.Prelude.{max}
 use Rattle.ws_base.specs.Numbers.{default_half, call_value}
 use Rattle.ws_base.specs.Outcomes.{Staged, scalar_of, ◌>>=◌}
@@ -25,9 +25,10 @@ use Rattle.hlfir_meaning.specs.Places.{columns_of, as_column, over}
 use Rattle.hlfir_meaning.specs.Stage1.{made, as_scalar, scalars}
 use Rattle.lower_assign.specs.declared.operand.Operand.{Operand}
 use Rattle.lower_assign.specs.Scopes.{Scope}
-use Rattle.lower_assign.specs.Operations.{values_of, arranged, rank_from, operation, call_on, call_elem}
+use Rattle.lower_assign.specs.Operations.{values_of, arranged, rank_from, at_each, operation, call_on, call_elem}
 use Rattle.value_laws.specs.Standing.{Does, Stands, StandEach, values_each, operands_each}
 use Rattle.value_laws.proofs.Elementals.{each-bounds}
+use Rattle.value_laws.proofs.Settled.{settled_if, settle_if, StandsIf, does-scalar_if}
 use Rattle.value_laws.proofs.Operations.{IsElementwise, unary-elementwise, binary-elementwise, does-on_scalars, does-at_each, operation-scalar, operation-array, max-left, max-right, max-none}
 
 -- ---- MERGE
@@ -54,12 +55,17 @@ merge = record { goes_on = refl; no_apply = refl; whole = λ b. refl; acts = sel
 
 -- ---- terms
 
-operands-call : (ts : List Term) → later.all_operands (hidden-the_row-Term-2 ts) ≡ operands_each ts
+pub operands-call : (ts : List Term) → later.all_operands (hidden-the_row-Term-2 ts) ≡ operands_each ts
 unfolding terms_open
 operands-call [] = refl
 operands-call (t ∷ ts) = ap (λ r. later.operands t ++ r) (operands-call ts)
 
-values-call : (ts : List Term) (at : List ℕ) → later.all_values (hidden-the_row-Term-2 ts) at ≡ values_each ts at
+pub settled-call : (b : Bool) (w : CallWord) (ts : List Term) → settle_if b (Ok (term.Call w ts)) ≡ settled_if b (term.Call w ts)
+unfolding terms_open
+settled-call true w ts = refl
+settled-call false w ts = refl
+
+pub values-call : (ts : List Term) (at : List ℕ) → later.all_values (hidden-the_row-Term-2 ts) at ≡ values_each ts at
 unfolding terms_open
 values-call [] at = refl
 values-call (t ∷ ts) at = ap (λ r. later.values t at >>= (λ xs. r >>= (λ rest. let cs : Staged (List (List ℤ)) = Ok (xs ∷ rest) in cs))) (values-call ts at)
@@ -91,41 +97,43 @@ module _ (base : ℕ) (env : Environment) where
   all-are low high (x ∷ xs) (t ∷ ts) h = one_more low h.0 x xs (source.scalars ts) t h.2 (all-are h.0 high xs ts h.3)
 
 module _ (w : CallWord) (op : What) (many : ℕ) (is : Calls w op many) (vectors : List ℕ) (base low : ℕ) (s : Scope) (n : ℕ) (env : Environment) (xs : List Operand) (ts : List Term)
-    (g : base ≤ low) (long : length xs ≡ many) (free : is_among n vectors ≡ false) (h : StandEach base low n env xs ts) (e : Elem) where
+    (g : base ≤ low) (long : length xs ≡ many) (b : Bool) (among : is_among n vectors ≡ b) (h : StandEach base low n env xs ts) (e : Elem) where
   abbrev Leaves : Staged Term → Type 0
-  Leaves r = Does vectors s n env (operation op e xs) r (λ x t m after. Stands base low m after x t)
+  Leaves r = Does vectors s n env (operation op e xs) (settle_if b r) (λ x t m after. StandsIf b base low m after x t)
 
   abbrev value : List ℤ → Staged ℤ
   value vs = scalar_of (call_value default_half w vs)
 
   call_of : (o : Option (List ℤ)) → Are base env o xs → Leaves (source.elemental_on w ts o)
   unfolding terms_open
-  call_of (Some vs) are =
-      subst (λ p. Does vectors s n env p (source.elemental_on w ts (Some vs)) (λ x t m after. Stands base low m after x t)) (sym (operation-scalar op e xs (are.0 0 refl)))
-      (does-on_scalars vectors base low s n env xs ts op e many (call_map w) value is long (each-bounds base env low n xs ts h) (value vs) (ap value are.1))
+  call_of (Some vs) are = does-scalar_if vectors base low s n env (operation op e xs) b (value vs)
+      (subst (λ p. Does vectors s n env p (source.elemental_on w ts (Some vs)) (λ x t m after. Stands base low m after x t)) (sym (operation-scalar op e xs (are.0 0 refl)))
+      (does-on_scalars vectors base low s n env xs ts op e many (call_map w) value is long (each-bounds base env low n xs ts h) (value vs) (ap value are.1)))
   call_of None are =
-      subst (λ p. Does vectors s n env p (Ok (term.Call w ts)) (λ x t m after. Stands base low m after x t)) (sym (operation-array op e xs (are 0)))
-      (does-at_each vectors base low s n env xs ts op e many (call_map w) value is long (rank_from 0 xs) g h (term.Call w ts) free (operands-call ts) (λ at. ap (λ r. r >>= call_map w at) (values-call ts at)) (λ v. are 0))
+      subst (λ p. Does vectors s n env p (settle_if b (Ok (term.Call w ts))) (λ x t m after. StandsIf b base low m after x t)) (sym (operation-array op e xs (are 0)))
+      (subst (λ q. Does vectors s n env (at_each op e (rank_from 0 xs) xs) q (λ x t m after. StandsIf b base low m after x t)) (sym (settled-call b w ts))
+      (does-at_each vectors base low s n env xs ts op e many (call_map w) value is long (rank_from 0 xs) g h (term.Call w ts) b among (are 0) (operands-call ts) (λ at. ap (λ r. r >>= call_map w at) (values-call ts at)) (λ v. are 0)))
 
   elemental_call : Leaves (source.elemental_on w ts (source.scalars ts))
   elemental_call = call_of (source.scalars ts) (all-are base env low n xs ts h)
 
 module _ (vectors : List ℕ) (base low : ℕ) (s : Scope) (n : ℕ) (env : Environment) (xs : List Operand) (ts : List Term) (g : base ≤ low) where
-  abbrev Stand : CallWord → Type 0
-  Stand w = Does vectors s n env (call_on w xs) (source.called w ts) (λ x t m after. Stands base low m after x t)
+  -- where the call is a vector subscript or not
+  abbrev pub StandIf : Bool → CallWord → Type 0
+  StandIf b w = Does vectors s n env (call_on w xs) (settle_if b (source.called w ts)) (λ x t m after. StandsIf b base low m after x t)
 
-  pub does-abs : length xs ≡ 1 → is_among n vectors ≡ false → StandEach base low n env xs ts → Stand word.Abs
+  pub abs-if : length xs ≡ 1 → (b : Bool) → is_among n vectors ≡ b → StandEach base low n env xs ts → StandIf b word.Abs
   unfolding call_on
-  does-abs long free h = elemental_call word.Abs (what.Unary unary.Abs) 1 (unary-elementwise unary.Abs) vectors base low s n env xs ts g long free h (call_elem word.Abs xs)
+  abs-if long b among h = elemental_call word.Abs (what.Unary unary.Abs) 1 (unary-elementwise unary.Abs) vectors base low s n env xs ts g long b among h (call_elem word.Abs xs)
 
-  pub does-mod : length xs ≡ 2 → is_among n vectors ≡ false → StandEach base low n env xs ts → Stand word.Mod
+  pub mod-if : length xs ≡ 2 → (b : Bool) → is_among n vectors ≡ b → StandEach base low n env xs ts → StandIf b word.Mod
   unfolding call_on
-  does-mod long free h = elemental_call word.Mod (what.Binary binary.Mod) 2 (binary-elementwise binary.Mod) vectors base low s n env xs ts g long free h (call_elem word.Mod xs)
+  mod-if long b among h = elemental_call word.Mod (what.Binary binary.Mod) 2 (binary-elementwise binary.Mod) vectors base low s n env xs ts g long b among h (call_elem word.Mod xs)
 
-  pub does-modulo : length xs ≡ 2 → is_among n vectors ≡ false → StandEach base low n env xs ts → Stand word.Modulo
+  pub modulo-if : length xs ≡ 2 → (b : Bool) → is_among n vectors ≡ b → StandEach base low n env xs ts → StandIf b word.Modulo
   unfolding call_on
-  does-modulo long free h = elemental_call word.Modulo (what.Binary binary.Modulo) 2 (binary-elementwise binary.Modulo) vectors base low s n env xs ts g long free h (call_elem word.Modulo xs)
+  modulo-if long b among h = elemental_call word.Modulo (what.Binary binary.Modulo) 2 (binary-elementwise binary.Modulo) vectors base low s n env xs ts g long b among h (call_elem word.Modulo xs)
 
-  pub does-merge : length xs ≡ 3 → is_among n vectors ≡ false → StandEach base low n env xs ts → Stand word.Merge
+  pub merge-if : length xs ≡ 3 → (b : Bool) → is_among n vectors ≡ b → StandEach base low n env xs ts → StandIf b word.Merge
   unfolding call_on
-  does-merge long free h = elemental_call word.Merge what.Select 3 merge vectors base low s n env xs ts g long free h (call_elem word.Merge xs)
+  merge-if long b among h = elemental_call word.Merge what.Select 3 merge vectors base low s n env xs ts g long b among h (call_elem word.Merge xs)

@@ -33,6 +33,7 @@ listed-stands base low high n env e rank vs l h ranked is = record {
   found = is;
   own = inr (l, h);
   rank = ranked;
+  whole = tt;
   shapes = refl;
   ordered = ordered-none low high;
   gives = λ other at alike _. (other, refl, ap (column_at at) (alike n (inr (l, h)) ∙ is), record { below = λ k _. refl; above = λ k _. refl });

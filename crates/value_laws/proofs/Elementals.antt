@@ -261,6 +261,7 @@ module _ (base : ℕ) (env : Environment) where
       found = with_value-here n value env;
       own = inr (low-n, le);
       rank = ranked;
+      whole = tt;
       shapes = body_applies.shapes ∙ (each-shapes low n xs ts h ∙ sym shape);
       ordered = subst (IsOrdered low high) (ap (λ ds. ds ++ body ∷ []) (sym body_applies.left))
           (ordered-append low n high (left_of env xs) (body ∷ []) low-n (omega (arith, le)) (each-ordered low n xs ts h) (ordered-one n high body (omega arith) le));

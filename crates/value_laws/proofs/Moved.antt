@@ -30,6 +30,7 @@ stands-moved base low low' high high' env after x t l g alike h = record {
   found = alike x.value.number h.own ∙ h.found;
   own = own-wider base low low' high high' x.value.number l g h.own;
   rank = h.rank;
+  whole = h.whole;
   shapes = h.shapes;
   ordered = ordered-wider low low' high high' (deferred_by x.value.number h.value) l g h.ordered;
   gives = λ other at same is. gives-wider low low' high high' at other x.value.number (deferred_by x.value.number h.value) (later.values t at) l g
@@ -53,5 +54,5 @@ module _ (vectors : List ℕ) (base : ℕ) (s : Scope) (n : ℕ) (env : Environm
       (λ y w k after. Stands base m k after y w) (λ z w k after. Stands base n k after z w) (hq m middle at kept)
       (λ w k after at' kept' hy.
       let l' : m ≤ k = omega (arith, at') in
-      does-binary vectors base n m s k after (p s n).made (q s m).made g l l' op t w (free m k at at')
+      does-binary vectors base n s k after (p s n).made g m (q s m).made l l' op t w (free m k at at')
       (stands-moved base n n m m middle after (p s n).made t (omega arith) (omega arith) (kept-alike base n m middle after g l kept') hx) hy))

@@ -40,7 +40,7 @@ use Rattle.lower_assign.specs.Scopes.{Scope}
 use Rattle.lower_assign.specs.Lowerings.{Lowering, done, giving, ◌>>=◌ as ◌then◌}
 use Rattle.lower_assign.specs.References.{boxed, loaded}
 use Rattle.value_laws.specs.Standing.{Goes, Does, IsOwn, Gives, AreIn, Stands}
-use Rattle.value_laws.specs.Variables.{IsArrayOf, Fits}
+use Rattle.value_laws.specs.Variables.{IsArrayOf, Fits, IsWholeWhereNamed}
 use Rattle.value_laws.proofs.Ordered.{ordered-none}
 use Rattle.value_laws.proofs.Walking.{with_value-here, goes-op, does-done, does-then}
 use Rattle.value_laws.proofs.Scalars.{settled-not, does-scalar}
@@ -51,27 +51,32 @@ unfolding terms_open
 full_extents [] = refl
 full_extents (d ∷ ds) = ap (λ es. d.extent ∷ es) (full_extents ds)
 
-whole_operands : (a : ArrayValue) → later.operands (source.whole_array a) ≡ later.array_operand (extents_of (dims a.shape))
+pub whole_operands : (a : ArrayValue) → later.operands (source.whole_array a) ≡ later.array_operand (extents_of (dims a.shape))
 unfolding terms_open
 whole_operands a = ap later.array_operand (full_extents (dims a.shape))
 
 -- ---- shapes that have a dimension
 
-abbrev IsSome : Extents → Type 0
+abbrev pub IsSome : Extents → Type 0
 IsSome [] = ⊥
 IsSome (n ∷ ns) = Unit {0}
 
-some_take : (rank : ℕ) (d : Dim) (ds : List Dim) → (rank == 0) ≡ false → IsSome (extents_of (take rank (d ∷ ds)))
+pub some_take : (rank : ℕ) (d : Dim) (ds : List Dim) → (rank == 0) ≡ false → IsSome (extents_of (take rank (d ∷ ds)))
 some_take zero d ds h = absurd (true≢false h)
 some_take (suc r) d ds h = tt
 
-in_shape : (at : List ℕ) (e : Extents) → IsSome e → AreIn at (later.array_operand e) → All (λ p. p < size e) at
+pub in_shape : (at : List ℕ) (e : Extents) → IsSome e → AreIn at (later.array_operand e) → All (λ p. p < size e) at
 in_shape at [] some h = absurd some
 in_shape at (n ∷ ns) some h = All-head (λ f. All (λ p. p < size f) at) (n ∷ ns) [] h
 
 -- ---- whole arrays
 
 module _ (base low high : ℕ) (env : Environment) (x : Operand) (v : Var) (a : ArrayValue) where
+  whole_named : (k : ValueKind) → v.state ≡ state.Array a → IsArrayOf (rank_of k) a → IsWholeWhereNamed k (variable v) (source.whole_array a)
+  whole_named (kind.Declared e shape) is held = record { var = v; array = a; value = refl; holds = is; fits = held; term = refl }
+  whole_named (kind.Allocatable e rank) is held = record { var = v; array = a; value = refl; holds = is; fits = held; term = refl }
+  whole_named _ is held = tt
+
   pub whole-stands : env x.value.number ≡ variable v → v.state ≡ state.Array a → IsOwn base low high x.value.number → (rank_of x.kind == 0) ≡ false → IsArrayOf (rank_of x.kind) a → Stands base low high env x (source.whole_array a)
   unfolding terms_open
   whole-stands found is own ranked held = record {
@@ -79,6 +84,7 @@ module _ (base low high : ℕ) (env : Environment) (x : Operand) (v : Var) (a : 
     found = found;
     own = own;
     rank = ranked;
+    whole = whole_named x.kind is held;
     shapes = ap (λ s. array_operand (references.held_extents s)) is ∙ sym (whole_operands a);
     ordered = ordered-none low high;
     gives = λ other at alike inside.
@@ -127,13 +133,13 @@ module _ (vectors : List ℕ) (base low : ℕ) (s : Scope) (n : ℕ) (env : Envi
       does-then vectors s n env (boxed d) loaded (Ok tt) (array_is a) Anything Leaves (does-done vectors s n env d tt Anything tt)
       (λ u m middle at kept i. does-done vectors s m middle d (source.whole_array a) Leaves (whole-stands base low m middle d v a (kept id.number small ∙ found) is (inl declared) h.some h))
 
-  abbrev box_op : Elem → ℕ → Op
+  abbrev pub box_op : Elem → ℕ → Op
   box_op e rank = op_of what.Boxed s.line (id ∷ []) (Some (kind.Allocatable e rank)) []
 
-  abbrev box : Staged Value
+  abbrev pub box : Staged Value
   box = references.allocated v.state >>= (λ a. Ok (variable v))
 
-  boxes : (e : Elem) (rank : ℕ) → Goes vectors n env (box_op e rank ∷ []) box (λ x after. after ≡ with_value n x env)
+  pub boxes : (e : Elem) (rank : ℕ) → Goes vectors n env (box_op e rank ∷ []) box (λ x after. after ≡ with_value n x env)
   boxes e rank = subst (λ q. Goes vectors n env (box_op e rank ∷ []) q (λ x after. after ≡ with_value n x env))
       (settled-not n env (walked.made n env what.Boxed (id ∷ []) []) ∙ ap walked.boxed found)
       (goes-op vectors what.Boxed s.line (id ∷ []) (Some (kind.Allocatable e rank)) [] n env refl)

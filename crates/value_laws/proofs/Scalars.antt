@@ -29,6 +29,7 @@ scalar-stands base low high n env e z l h is = record {
   found = is;
   own = inr (l, h);
   rank = (refl, refl);
+  whole = tt;
   shapes = refl;
   ordered = ordered-none low high;
   gives = λ other at alike _. (other, refl, ap (column_at at) (alike n (inr (l, h)) ∙ is), record { below = λ k _. refl; above = λ k _. refl });

@@ -1,4 +1,9 @@
 pub mod Singles
 pub mod Standing
 pub mod Variables
+pub mod Names
+pub mod Arguments
+pub mod Sound
+pub mod Vectors
+pub mod Regions
 pub mod Laws

@@ -4,7 +4,7 @@ use Rattle.std.specs.List.{All}
 use Rattle.ws_base.specs.Outcomes.{Staged, ◌>>=◌}
 use Rattle.ws_space.specs.Shapes.{Extents, size}
 use Rattle.array_meaning.specs.declared.term.Term.{Term}
-use Rattle.array_meaning.specs.declared.term.Term.TheVariants.{Scalar}
+use Rattle.array_meaning.specs.declared.term.Term.TheVariants.{Scalar, Listed}
 use Rattle.array_meaning.specs.Stage2 as source
 use Rattle.hlfir_ops.specs.declared.kinds.ValueKind.{ValueKind}
 use Rattle.hlfir_ops.specs.declared.op.Op.{Op}
@@ -12,11 +12,12 @@ use Rattle.hlfir_ops.specs.Numbers.{numbers_of}
 use Rattle.hlfir_ops.specs.RulesValues.{rank_of}
 use Rattle.hlfir_meaning.specs.Environments.{Value, scalar, Environment, Deferred}
 use Rattle.hlfir_meaning.specs.Places.{column_at}
-use Rattle.hlfir_meaning.specs.Stage1.{stage1}
+use Rattle.hlfir_meaning.specs.Stage1.{stage1, vector}
 use Rattle.hlfir_meaning.specs.Stage2.{operands, deferred_by, stage2}
 use Rattle.lower_assign.specs.declared.operand.Operand.{Operand}
 use Rattle.lower_assign.specs.Scopes.{Scope}
 use Rattle.lower_assign.specs.Lowerings.{Lowering}
+use Rattle.value_laws.specs.Variables.{IsWholeWhereNamed}
 
 -- ---- stage 1
 
@@ -90,10 +91,24 @@ pub record Stands (base low high : ℕ) (env : Environment) (x : Operand) (t : T
   pub found : env x.value.number ≡ value
   pub own : IsOwn base low high x.value.number
   pub rank : IsOfRank x.kind value t
+  pub whole : IsWholeWhereNamed x.kind value t
   pub shapes : operands value ≡ source.operands t
   pub ordered : IsOrdered low high (deferred_by x.value.number value)
   pub gives : (other : Environment) (at : List ℕ) → Alike base low high env other → AreIn at (source.operands t) →
       Gives low high at other x.value.number (deferred_by x.value.number value) (source.values t at)
+
+-- ---- vector subscripts
+
+-- An operation or a copy that is a vector subscript is evaluated whole where it stands: its values are listed then.
+abbrev pub settled : Term → Staged Term
+settled (Scalar z) = Ok (Scalar z)
+settled t = source.whole t >>= (λ xs. Ok (Listed xs))
+
+-- the operand holds these values, or is a scalar
+abbrev pub StandsSettled : ℕ → ℕ → ℕ → Environment → Operand → Term → Type 0
+StandsSettled base low high env x (Scalar z) = Stands base low high env x (Scalar z)
+StandsSettled base low high env x (Listed xs) = Stands base low high env x (Listed xs) × (env x.value.number ≡ vector xs)
+StandsSettled base low high env x t = ⊥
 
 -- ---- several values
 

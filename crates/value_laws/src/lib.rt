@@ -4,6 +4,8 @@
 mod laws;
 
 pub use laws::{
-    calls_stand, constructors_stand, names_and_constants_stand, operators_stand, reductions_stand,
-    values_are_the_same,
+    calls_are_settled, calls_stand, constant_expressions_stand, constructors_stand, copies_stand,
+    expressions_are_clear, expressions_stand, expressions_yield, inquiries_stand,
+    names_and_constants_stand, names_stand, nested_calls_stand, operators_stand, reductions_stand,
+    values_are_the_same, vector_subscripts_are_settled,
 };

@@ -1,0 +1,2 @@
+pub mod NamesSound
+pub mod ExpressionsSound
