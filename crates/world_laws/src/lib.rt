@@ -1,0 +1,2 @@
+//! That lowered programs mean what their sources mean, stated part by part. Read `specs/Worlds.antt`, `specs/Yields.antt`, `specs/Meanings.antt`.
+#![tactic(auto)]
