@@ -40,12 +40,12 @@ use Rattle.lower_constructs.specs.Lists.{mask_of}
 use Rattle.lower_constructs.specs.Modules.{triple, triples, forall_mask, third, elsewhere, statement, statements, elsewheres, statement_list}
 use Rattle.place_laws.proofs.Lowered.{makes-then, makes-statement, regions-none, regions-more}
 use Rattle.place_laws.proofs.PlainSides.{plain-all_yielded, plain-triple, plain-triples}
-use Rattle.place_laws.proofs.Held.{held-rest, held-statement}
+use Rattle.kind_laws.proofs.Held.{held-rest, held-statement}
 use Rattle.kind_laws.proofs.ScopesKnown.{forall_known, loop_known}
 use Rattle.kind_laws.proofs.ScopesFound.{inside_found}
 use Rattle.place_laws.proofs.Yields.{second-region}
-use Rattle.place_laws.proofs.MaskFacts.{allowed}
-use Rattle.place_laws.proofs.Constructs.{where_parts, else_parts, forall_parts, loop_block, shared_block}
+use Rattle.kind_laws.proofs.NoFaults.{allowed}
+use Rattle.kind_laws.proofs.Grammar.{where_parts, else_parts, forall_parts, loop_parts, shared_parts}
 use Rattle.place_laws.proofs.Keeping.{Keeps, keeps-done, keeps-then, keeps-region, keeps-where, keeps-elsewhere, elsewhere-is}
 use Rattle.place_laws.proofs.WhereBodies.{where-fits, elsewhere-fits}
 use Rattle.place_laws.proofs.ForallBodies.{forall-fits}
@@ -151,13 +151,13 @@ module _ (vs : List Value) where
         (none_after (header_faults t (barred t is) line [] is) (forall_mask_faults (inner t is) line mask) header) block_none
         (keeps-block parts.1.place parts.1.room (inner t is) within.Forall block parts.1.stands block_none)
     keeps-body place room t w line (Loop' x l u st c block) g f =
-        let parts = loop_block place room line x l u st c block g in
+        let parts = (loop_parts place room line x l u st c block g).3 in
         let inside = looked_into (is_masked w) line kind.Unsupported _ f in
         let header = none_first (loop_header_faults t w line x l u st) (block_faults (with_active t x) w block) inside in
         let variable = none_after (serial_faults w line) (loop_faults w line (standing_of t x)) (none_first _ _ (none_first _ _ (none_first _ _ header))) in
         loop-bodies t w line x l u st block variable (keeps-block parts.place parts.room (with_active t x) w block parts.stands (none_after (loop_header_faults t w line x l u st) (block_faults (with_active t x) w block) inside))
     keeps-body place room t w line (Shared' c block) g f =
-        let parts = shared_block place room line c block g in
+        let parts = shared_parts place room line c block g in
         shared-bodies t line block (keeps-block parts.place parts.room t within.Shared block parts.stands (allowed (is_outside w) line kind.Unsupported _ f))
     keeps-body place room t w line (Allocate ps) g f = λ s n k there h. free-allocations vs line ps s n
     keeps-body place room t w line (Deallocate xs) g f = λ s n k there h. free-deallocations vs line xs s n

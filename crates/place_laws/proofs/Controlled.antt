@@ -41,12 +41,12 @@ use Rattle.place_laws.proofs.Lowered.{makes-statement, regions-none, regions-mor
 use Rattle.place_laws.proofs.Plain.{is_plain, plain}
 use Rattle.place_laws.proofs.PlainValues.{plain-value}
 use Rattle.place_laws.proofs.PlainSides.{plain-yielded, plain-left}
-use Rattle.place_laws.proofs.Held.{held-first, held-statement}
+use Rattle.kind_laws.proofs.Held.{held-first, held-statement}
 use Rattle.kind_laws.proofs.ScopesKnown.{inside_known}
 use Rattle.kind_laws.proofs.ScopesFound.{inside_found}
 use Rattle.place_laws.proofs.Yields.{second-yield, left-found, one_rank}
 use Rattle.place_laws.proofs.MaskFacts.{mask-type, same-rank, control-rank}
-use Rattle.place_laws.proofs.Constructs.{where_parts, else_parts}
+use Rattle.kind_laws.proofs.Grammar.{where_parts, else_parts}
 use Rattle.place_laws.proofs.WhereMasks.{mask-found, first-rank}
 use Rattle.place_laws.proofs.Keeping.{Keeps, keeps-done, keeps-then, keeps-where, keeps-elsewhere}
 

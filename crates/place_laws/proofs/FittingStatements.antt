@@ -40,7 +40,7 @@ use Rattle.place_laws.specs.Laws.{ListsFit}
 use Rattle.place_laws.proofs.Printed.{ops-region_of}
 use Rattle.place_laws.proofs.PlainValues.{plain-value}
 use Rattle.place_laws.proofs.PlainSides.{plain-yielded, plain-all_yielded, plain-left, plain-triple, plain-triples}
-use Rattle.place_laws.proofs.MaskFacts.{allowed}
+use Rattle.kind_laws.proofs.NoFaults.{allowed}
 use Rattle.place_laws.proofs.Sorts.{program_block, shared_block}
 use Rattle.place_laws.proofs.Fitting.{fit, Fits, Enters, AllEnter, enters-plain, fits-by, fits-done, fits-then, fits-scoped, fits-statement}
 use Rattle.place_laws.proofs.FittingItems.{items-fit, allocations, deallocations, readings, declares-fit}

@@ -2,6 +2,7 @@
 use Rattle.std.proofs.Common.{◌≡◌, refl, sym, ap, ◌∙◌, ℕ, suc, ◌+◌, Bool, true, false, ◌&&◌, List, [], ◌∷◌, ◌++◌, length, Option, true≢false}
 use Rattle.std.specs.List.{list_all}
 use Rattle.std.proofs.lemmas.List.Folds.{list_all-append}
+use Rattle.std.proofs.lemmas.Bool.{and_from}
 use mathlib.Core.Former.{Count}
 use Rattle.hlfir_ops.specs.declared.kinds.ValueKind.{ValueKind}
 use Rattle.hlfir_ops.specs.declared.what.What.{What}
@@ -15,10 +16,6 @@ use Rattle.hlfir_ops.proofs.Order.{op_order-parts, order_of-append}
 
 -- ---- truth values
 
-pub both : (b c : Bool) → b ≡ true → c ≡ true → (b && c) ≡ true
-both true c h g = g
-both false c h g = h
-
 pub first_true : (b c : Bool) → (b && c) ≡ true → b ≡ true
 first_true true c h = refl
 first_true false c h = h
@@ -29,11 +26,11 @@ second_true false c h = absurd (true≢false (sym h))
 
 module _ {A : Type 0} (test : A → Bool) where
   pub all-append : (xs ys : List A) → list_all test xs ≡ true → list_all test ys ≡ true → list_all test (xs ++ ys) ≡ true
-  all-append xs ys h g = list_all-append test xs ys ∙ both (list_all test xs) (list_all test ys) h g
+  all-append xs ys h g = list_all-append test xs ys ∙ and_from (list_all test xs) (list_all test ys) h g
 
   pub all-weaker : (other : A → Bool) (xs : List A) → ((x : A) → test x ≡ true → other x ≡ true) → list_all test xs ≡ true → list_all other xs ≡ true
   all-weaker other [] f h = refl
-  all-weaker other (x ∷ xs) f h = both (other x) (list_all other xs) (f x (first_true (test x) (list_all test xs) h)) (all-weaker other xs f (second_true (test x) (list_all test xs) h))
+  all-weaker other (x ∷ xs) f h = and_from (other x) (list_all other xs) (f x (first_true (test x) (list_all test xs) h)) (all-weaker other xs f (second_true (test x) (list_all test xs) h))
 
 -- ---- a test of each site follows from one of each op in printed order; P says what is known of what is around
 
@@ -43,7 +40,7 @@ module _ (P : Around → Type 0) (inner : (a : Around) (w : What) (k : ℕ) → 
     op_passes p (Op' w line operands kind h regions) around all =
         let here : Op = Op' w line operands kind h regions in
         let site : Site = record { place = p; op = here } in
-        both (test site) (list_all test (regions_sites p.around w 0 (own_numbers kind + p.number) p.defined regions))
+        and_from (test site) (list_all test (regions_sites p.around w 0 (own_numbers kind + p.number) p.defined regions))
         (fits site around (first_true (T here) (list_all T (regions_order regions)) all))
         (regions_pass p.around w 0 (own_numbers kind + p.number) p.defined regions (second_true (T here) (list_all T (regions_order regions)) all))
 
@@ -102,4 +99,4 @@ module _ (T : Op → Bool) where
     everywhere-op h g =
         let op = op_of w line operands kind regions in
         let order : op_order op ≡ op ∷ order_in regions = op_order-parts op ∙ ap (λ f. op ∷ order_in f.regions) (parts-op_of w line operands kind regions) in
-        all-append T (op_order op) [] (ap (list_all T) order ∙ both (T op) (list_all T (order_in regions)) h g) refl
+        all-append T (op_order op) [] (ap (list_all T) order ∙ and_from (T op) (list_all T (order_in regions)) h g) refl

@@ -1,5 +1,6 @@
 -- What the regions of a statement yield, and what is found of it.
 use Rattle.std.proofs.Common.{◌≡◌, refl, ap, ◌∙◌, ℕ, ◌==◌, Bool, true, ◌||◌, List, [], ◌∷◌, Some, None, if◌then◌else◌, arith}
+use Rattle.std.proofs.lemmas.Bool.{and_from}
 use Rattle.ws_tree.specs.declared.expr.Expr.{Expr}
 use Rattle.ws_tree.specs.Grammatical.{IsSide, IsDesignator}
 use Rattle.ws_sema.specs.Statements.{left_faults, left_type}
@@ -26,9 +27,9 @@ use Rattle.lower_assign.specs.Scopes.{Scope}
 use Rattle.lower_assign.specs.Lowerings.{Lowering, ◌>>=◌, scoped, acting}
 use Rattle.lower_assign.specs.Values.{value}
 use Rattle.lower_assign.specs.Statements.{yielded, left}
-use Rattle.place_laws.proofs.Printed.{both, parts-op_of, ops-region_of}
+use Rattle.place_laws.proofs.Printed.{parts-op_of, ops-region_of}
 use Rattle.place_laws.proofs.FittingItems.{last-push}
-use Rattle.place_laws.proofs.Held.{held-first}
+use Rattle.kind_laws.proofs.Held.{held-first}
 
 -- ---- yields
 
@@ -77,7 +78,7 @@ same_number m n h = grind (arith, h)
 -- a value of this rank
 pub one_rank : (vs : List Value) (n : ℕ) (v : ValueId) (ps : List ValueId) (kind : ValueKind) → ps ≡ v ∷ [] → kind_at vs v ≡ Some kind → rank_of kind ≡ n → have_rank vs n ps ≡ true
 one_rank vs n v ps kind is found rank =
-    ap (have_rank vs n) is ∙ both (has_rank n (kind_at vs v)) true (ap (has_rank n) found ∙ same_number (rank_of kind) n rank) refl
+    ap (have_rank vs n) is ∙ and_from (has_rank n (kind_at vs v)) true (ap (has_rank n) found ∙ same_number (rank_of kind) n rank) refl
 
 -- ---- left sides
 
