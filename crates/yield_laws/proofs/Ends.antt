@@ -3,6 +3,7 @@ use Rattle.std.proofs.Common.{◌≡◌, refl, ap, ◌∙◌, ℕ, ◌-◌, Bool
 use Rattle.std.specs.List.{list_all}
 use Rattle.std.proofs.lemmas.List.{length_push}
 use Rattle.std.proofs.Math.Seq.{take-append_seam}
+use Rattle.std.proofs.lemmas.Bool.{and_from}
 use Rattle.hlfir_ops.specs.declared.what.What.{What}
 use Rattle.hlfir_ops.specs.declared.what.What.TheVariants as what
 use Rattle.hlfir_ops.specs.declared.op.ValueId.{ValueId}
@@ -10,7 +11,6 @@ use Rattle.hlfir_ops.specs.declared.op.Op.{Op, Op-F, out-Op, out-roll-Op}
 use Rattle.hlfir_ops.specs.declared.op.Region.{Region, out-roll-Region}
 use Rattle.hlfir_ops.specs.Trees.{op_of, region_of}
 use Rattle.hlfir_ops.specs.RulesRegions.{ops_in, is_yield, is_yield_element, gives_value, last_of, front_of, is_last, parts_of, parts, yields}
-use Rattle.yield_laws.proofs.Right.{both}
 
 -- ---- the last one and those before it
 
@@ -59,4 +59,4 @@ parts-yield line operands xs = parts-push what.Yield line operands xs refl
 
 pub yields-push : (line : ℕ) (operands : List ValueId) (xs : List Op) → list_all gives_value xs ≡ true → yields (xs ++ op_of what.Yield line operands None [] ∷ []) ≡ true
 yields-push line operands xs h =
-    both _ _ (is_last-push what.Yield line operands is_yield xs) (ap (list_all gives_value) (front_of-push xs (op_of what.Yield line operands None [])) ∙ h)
+    and_from _ _ (is_last-push what.Yield line operands is_yield xs) (ap (list_all gives_value) (front_of-push xs (op_of what.Yield line operands None [])) ∙ h)

@@ -17,7 +17,6 @@ pub mod Assignments
 pub mod Items
 pub mod Holders
 pub mod Plain
-pub mod Grammar
 pub mod Constructs
 pub mod Statements
 pub mod Declares

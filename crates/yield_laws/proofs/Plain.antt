@@ -3,6 +3,7 @@ use Rattle.std.proofs.Common.{◌≡◌, refl, sym, ap, ◌∙◌, ℕ, ◌+◌,
 use Rattle.std.specs.Prelude.{⊤}
 use Rattle.std.proofs.Math.Nat.{mul-mod_left}
 use Rattle.std.proofs.lemmas.List.Elements.{All-nil, All-cons, All-head, All-tail}
+use Rattle.std.proofs.lemmas.Bool.{and_from}
 use Rattle.ws_base.specs.declared.name.Name.{Name}
 use Rattle.ws_tree.specs.declared.expr.Expr.{Expr}
 use Rattle.ws_tree.specs.declared.stmt.Part.{Part}
@@ -30,7 +31,7 @@ use Rattle.kind_laws.specs.Standing.{Knows}
 use Rattle.kind_laws.specs.Found.{ScopeIsFound}
 use Rattle.kind_laws.proofs.TypedExpressions.{types_are_known}
 use Rattle.kind_laws.proofs.Sides.{sides_are_expressions}
-use Rattle.yield_laws.proofs.Right.{both, IsRight, op-right}
+use Rattle.yield_laws.proofs.Right.{IsRight, op-right}
 use Rattle.kind_laws.proofs.NoFaults.{none_first, none_after, not_broken, left_false, right_false}
 use Rattle.yield_laws.proofs.Ends.{ops_in-first}
 use Rattle.yield_laws.proofs.Regions.{no-regions, more-regions, region-reached}
@@ -127,11 +128,11 @@ module _ (vs : List Value) (t : List Row) (w : Within) (line : ℕ) (s : Scope) 
       op-right vs m (what.Allocmem also) line os None (region_of ops ∷ [])
       (record {
         other = refl;
-        yields = ap (yields_pairs vs) (ops_in-first ops []) ∙ both _ _ (integers-yielded y h.integers) (ap (λ l. length l % 2 == 0) y.parts ∙ pairs_many n (length made) h.many);
+        yields = ap (yields_pairs vs) (ops_in-first ops []) ∙ and_from _ _ (integers-yielded y h.integers) (ap (λ l. length l % 2 == 0) y.parts ∙ pairs_many n (length made) h.many);
         sides = refl;
         realloc = refl;
         uses = refl;
-        judged = both _ true (region-reached vs ops (yielded-reached y h.reached)) refl;
+        judged = and_from _ true (region-reached vs ops (yielded-reached y h.reached)) refl;
       })
       (more-regions vs m ops [] (y.right m) (no-regions vs m))
 
@@ -165,11 +166,11 @@ module _ (vs : List Value) (t : List Row) (w : Within) (line : ℕ) (s : Scope) 
       op-right vs m (what.Read also) line [] None (region_of ops ∷ [])
       (record {
         other = refl;
-        yields = ap (yields_item vs) (ops_in-first ops []) ∙ both _ _ (both _ _ (one-of y) (ap is_target kind ∙ target)) (ap (λ l. not (is_vector_designate (first_value vs l))) y.parts ∙ ap not no_vector);
+        yields = ap (yields_item vs) (ops_in-first ops []) ∙ and_from _ _ (and_from _ _ (one-of y) (ap is_target kind ∙ target)) (ap (λ l. not (is_vector_designate (first_value vs l))) y.parts ∙ ap not no_vector);
         sides = refl;
         realloc = refl;
         uses = refl;
-        judged = both _ true (region-reached vs ops (yielded-reached y (both _ true (ap not (ap is_allocatable_declare found ∙ declare)) refl))) refl;
+        judged = and_from _ true (region-reached vs ops (yielded-reached y (and_from _ true (ap not (ap is_allocatable_declare found ∙ declare)) refl))) refl;
       })
       (more-regions vs m ops [] (y.right m) (no-regions vs m))
 
