@@ -1,6 +1,7 @@
 -- Blocks of statements, by induction on the tree.
 use Rattle.std.proofs.Common.{◌≡◌, refl, ap, ℕ, true, false, nat_lt, List, [], ◌∷◌, ◌++◌, map, All, Option, Some, None}
 use Rattle.std.proofs.lemmas.List.Elements.{All-head, All-tail}
+use Rattle.std.proofs.lemmas.Bool.{and_from}
 use mathlib.Core.Former.{Count}
 use Rattle.ws_base.specs.declared.name.Name.{Name}
 use Rattle.ws_base.specs.declared.refusal.RefusalKind.TheVariants as refusal
@@ -30,9 +31,8 @@ use Rattle.lower_assign.specs.Values.{value}
 use Rattle.lower_assign.specs.Statements.{yielded, all_yielded, allocation, deallocation, reading}
 use Rattle.lower_constructs.specs.Modules.{triple, triples, forall_mask, elsewhere, statement, statements, elsewheres, statement_list}
 use Rattle.small_laws.proofs.NoFaults.{none_first, none_after, looked_into, allowed}
-use Rattle.form_laws.proofs.Passing.{both}
 use Rattle.kind_laws.proofs.ScopesFound.{loop_variables_are_found}
-use Rattle.form_laws.proofs.Grammar.{where_parts, forall_parts, loop_parts, shared_parts, allocated_parts, read_parts, no_else}
+use Rattle.kind_laws.proofs.Grammar.{where_parts, forall_parts, loop_parts, shared_parts, allocated_parts, read_parts, no_else}
 use Rattle.form_laws.proofs.Stages.{Stage, stage-region, stage-active, stage-barred, stage-inner}
 use Rattle.form_laws.proofs.Regions.{Walks, walks-done, walks-then, walks-scoped, walks-yielded, walks-all_yielded, walks-statement, walks-in_turn}
 use Rattle.form_laws.proofs.Sides.{walks-side}
@@ -95,7 +95,7 @@ module _ (vs : List Value) where
         let declare = (declare_of s.names x).value in
         walks-scoped vs s (λ o. statement_of what.DoLoop line ((declare_of o.names x).value ∷ []) (all_yielded (triple l u step) ∷ statements block ∷ []))
         (walks-statement vs what.DoLoop line (declare ∷ []) (all_yielded (triple l u step) ∷ statements block ∷ []) s refl
-        (λ n. both (is_integer_declare (value_at vs declare)) true (variable_found t s h x w line loop) refl) (
+        (λ n. and_from (is_integer_declare (value_at vs declare)) true (variable_found t s h x w line loop) refl) (
           (λ m names. let o = inside what.DoLoop line 0 m s in
               walks-all_yielded vs o (triple l u step)
               (walks-triple vs t o (stage-region vs t s h what.DoLoop line 0 m refl names) line l u step parts.0 parts.1 parts.2 first_is last_is step_is)),

@@ -1,6 +1,6 @@
 -- The statements that hold no others.
 use Rattle.std.proofs.Common.{◌≡◌, refl, sym, ap, ◌∙◌, ℕ, ◌+◌, ◌-◌, ◌*◌, ◌%◌, ◌==◌, Bool, true, false, not, ◌&&◌, ◌||◌, nat_eq, List, [], ◌∷◌, ◌++◌, length, All, Option, Some, None, IfSome, slice_get, pos, arith, if◌then◌else◌}
-use Rattle.std.proofs.lemmas.Bool.{true≢false}
+use Rattle.std.proofs.lemmas.Bool.{true≢false, and_from}
 use Rattle.std.proofs.lemmas.List.{length-append}
 use Rattle.std.proofs.lemmas.List.Elements.{All-head, All-tail}
 use Rattle.ws_base.specs.declared.name.Name.{Name}
@@ -37,7 +37,6 @@ use Rattle.lower_assign.specs.Values.{value}
 use Rattle.lower_assign.specs.Statements.{yielded, all_yielded, left, item, is_whole_allocatable, assignment, bounds_of, all_bounds, allocation, deallocation, reading}
 use Rattle.small_laws.proofs.NoFaults.{none_first, none_after, not_broken, impossible}
 use Rattle.small_laws.proofs.Tables as tables
-use Rattle.form_laws.proofs.Passing.{both}
 use Rattle.kind_laws.proofs.TypeFacts.{same_type, no_type}
 use Rattle.kind_laws.proofs.ScopesFound.{allocatables_are_found}
 use Rattle.form_laws.proofs.Entries.{allocatable_kind}
@@ -122,7 +121,7 @@ module _ (vs : List Value) (t : List Row) (s : Scope) (h : Stage vs t s) where
     unfolding deallocation
     walks-deallocation also =
         walks-scoped vs s (λ c. statement_of (what.Freemem also) line ((declare_of c.names x).value ∷ []) [])
-        (walks-statement vs (what.Freemem also) line ((declare_of s.names x).value ∷ []) [] s refl (λ n. both (is_allocatable_declare (value_at vs (declare_of s.names x).value)) true is_declare refl) tt)
+        (walks-statement vs (what.Freemem also) line ((declare_of s.names x).value ∷ []) [] s refl (λ n. and_from (is_allocatable_declare (value_at vs (declare_of s.names x).value)) true is_declare refl) tt)
 
     pairs : (count n : ℕ) → is_other_bounds (standing_of t x) count ≡ false → n ≡ count * 2 → has_pairs (value_at vs declare.value) n ≡ true
     pairs count n g is =
@@ -160,8 +159,8 @@ module _ (vs : List Value) (t : List Row) (s : Scope) (h : Stage vs t s) where
       let ops = (region c (n + 0)).ops in
       let many : length (parts (out-Region (region_of ops)).ops) ≡ length p.shape * 2 =
       ap (λ r. length (parts r.ops)) (out-roll-Region (record { ops = ops })) ∙ (ap length (parts-yielded (all_bounds p.shape) c (n + 0)) ∙ bounds-long c (n + 0) t line p.shape (none_after _ _ f)) in
-      both (is_allocatable_declare (value_at vs declare) && has_pairs (value_at vs declare) (length (parts (out-Region (region_of ops)).ops))) true
-      (both (is_allocatable_declare (value_at vs declare)) (has_pairs (value_at vs declare) (length (parts (out-Region (region_of ops)).ops))) (is_declare line p.name named) (pairs line p.name named (length p.shape) (length (parts (out-Region (region_of ops)).ops)) (not_broken _ _ _ (none_after _ _ (none_first _ _ f))) many)) refl) (
+      and_from (is_allocatable_declare (value_at vs declare) && has_pairs (value_at vs declare) (length (parts (out-Region (region_of ops)).ops))) true
+      (and_from (is_allocatable_declare (value_at vs declare)) (has_pairs (value_at vs declare) (length (parts (out-Region (region_of ops)).ops))) (is_declare line p.name named) (pairs line p.name named (length p.shape) (length (parts (out-Region (region_of ops)).ops)) (not_broken _ _ _ (none_after _ _ (none_first _ _ f))) many)) refl) (
         (λ m names. let c = inside w line 0 m s in walks-all_yielded vs c (all_bounds p.shape) (bounds-walk c (stage-region vs t s h w line 0 m refl names) line p.shape g.1 (none_after _ _ f))),
         tt,
       ))

@@ -5,9 +5,7 @@ use Rattle.hlfir_ops.specs.RulesValues.{Value}
 use Rattle.lower_assign.specs.declared.operand.Operand.{Operand}
 use Rattle.lower_assign.specs.Scopes.{Scope}
 use Rattle.lower_assign.specs.Lowerings.{Lowering, Lowered, done, ◌>>=◌}
-use Rattle.kind_laws.specs.Found.{Holds}
 use Rattle.form_laws.proofs.Passing.{AreFit, fit-none, fit-append}
-use Rattle.kind_laws.proofs.Finding.{holds_first, holds_after}
 use Rattle.form_laws.proofs.Operands.{IsSolid, Made}
 
 module _ (vs : List Value) where
@@ -20,22 +18,11 @@ module _ (vs : List Value) where
   good-made l h = record { fit = h.fit; solid = h.stands.solid }
 
   module _ {A B : Type 0} (p : Lowering A) (q : A → Lowering B) (s : Scope) (n : ℕ) where
-    abbrev pub after : ℕ
-    after = n + numbers_of (p s n).ops
-
-    pub then-first : Holds vs n ((p >>= q) s n).ops → Holds vs n (p s n).ops
+    pub then-fit : (b : Bool) → AreFit vs b (p s n).ops → AreFit vs b (q (p s n).made s (n + numbers_of (p s n).ops)).ops → AreFit vs b ((p >>= q) s n).ops
     unfolding ◌>>=◌
-    then-first h = holds_first vs n (p s n).ops (q (p s n).made s after).ops h
+    then-fit b h g = fit-append vs b (p s n).ops (q (p s n).made s (n + numbers_of (p s n).ops)).ops h g
 
-    pub then-second : Holds vs n ((p >>= q) s n).ops → Holds vs after (q (p s n).made s after).ops
-    unfolding ◌>>=◌
-    then-second h = holds_after vs n (p s n).ops (q (p s n).made s after).ops h
-
-    pub then-fit : (b : Bool) → AreFit vs b (p s n).ops → AreFit vs b (q (p s n).made s after).ops → AreFit vs b ((p >>= q) s n).ops
-    unfolding ◌>>=◌
-    then-fit b h g = fit-append vs b (p s n).ops (q (p s n).made s after).ops h g
-
-    pub then-made : ((p >>= q) s n).made ≡ (q (p s n).made s after).made
+    pub then-made : ((p >>= q) s n).made ≡ (q (p s n).made s (n + numbers_of (p s n).ops)).made
     unfolding ◌>>=◌
     then-made = refl
 
