@@ -1,5 +1,6 @@
 pub mod NoFaults
 pub mod Grammar
+pub mod Faultless
 pub mod Sited
 pub mod TypesKnown
 pub mod TypedExpressions
