@@ -5,7 +5,7 @@ use Rattle.ws_types.specs.declared.types.Typed.{Typed}
 use Rattle.ws_types.specs.declared.types.Arguments.{Arguments}
 use Rattle.ws_types.specs.Operations.{differ, with_argument, no_arguments}
 use Rattle.kind_laws.proofs.Arguments.{argued}
-use Rattle.small_laws.proofs.NoFaults.{left_false, right_false}
+use Rattle.kind_laws.proofs.NoFaults.{left_false, right_false}
 
 -- all are LOGICAL, or none is
 abbrev pub Each : Bool → List Typed → Type 0

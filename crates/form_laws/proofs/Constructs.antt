@@ -25,10 +25,10 @@ use Rattle.lower_assign.specs.Values.{value}
 use Rattle.lower_assign.specs.Lists.{stride}
 use Rattle.lower_assign.specs.Statements.{yielded}
 use Rattle.lower_constructs.specs.Modules.{triple, triples, forall_mask, third, elsewhere, elsewheres}
-use Rattle.small_laws.proofs.NoFaults.{none_first, none_after}
 use Rattle.form_laws.proofs.Stages.{Stage, stage-region}
 use Rattle.form_laws.proofs.Regions.{AllOf, Walks, walks-done, walks-then, walks-scoped, walks-yielded, RegionWalks, walks-statement}
 use Rattle.form_laws.proofs.Sides.{walks-side, walks-stride}
+use Rattle.kind_laws.proofs.NoFaults.{none_first, none_after}
 
 -- ---- lists of items
 

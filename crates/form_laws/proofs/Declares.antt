@@ -16,9 +16,9 @@ use Rattle.lower_assign.specs.Scopes.{Scope}
 use Rattle.lower_assign.specs.Lowerings.{done, ◌>>=◌, in_turn, giving}
 use Rattle.lower_assign.specs.Known.{elem, bound_dim, declared_shape, variable_kind, declares_variable, if_variable, variable_decls, numbered}
 use Rattle.lower_constructs.specs.Modules.{declaration}
-use Rattle.small_laws.proofs.NoFaults.{none_first, none_after, not_broken}
 use Rattle.form_laws.proofs.Passing.{fit-op}
 use Rattle.kind_laws.proofs.DeclaresFound.{GivesDeclares}
+use Rattle.kind_laws.proofs.NoFaults.{none_first, none_after, not_broken}
 use Rattle.form_laws.proofs.Regions.{AllOf, Walks, walks-then, walks-done, walks-in_turn}
 
 -- ---- kinds of variables

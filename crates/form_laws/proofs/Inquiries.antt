@@ -26,7 +26,7 @@ use Rattle.kind_laws.proofs.ScopesFound.{allocatables_are_found}
 use Rattle.kind_laws.specs.Standing.{Knows}
 use Rattle.kind_laws.specs.Found.{Holds, ScopeIsFound}
 use Rattle.kind_laws.proofs.Held.{held-first}
-use Rattle.small_laws.proofs.NoFaults.{none_first, none_after, not_broken, impossible, left_false, right_false}
+use Rattle.kind_laws.proofs.NoFaults.{none_first, none_after, not_broken, impossible, left_false, right_false}
 use Rattle.form_laws.proofs.Operands.{IsFound}
 use Rattle.form_laws.proofs.Walking.{Good, then-good}
 use Rattle.form_laws.proofs.Entries.{NamesArray, names-array, allocatable_kind}

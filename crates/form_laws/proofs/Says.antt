@@ -10,9 +10,9 @@ use Rattle.ws_types.specs.declared.types.Arguments.{Arguments}
 use Rattle.ws_types.specs.Operations.{differ, takes_truth, joins_truths, is_other_type, is_above, unary_faults, binary_faults, scalar_faults, subscript_faults, part_faults, vector_faults, call_faults}
 use Rattle.ws_types.specs.Expressions.{wide_faults}
 use Rattle.hlfir_ops.specs.declared.what.ValueBinary.{ValueBinary}
-use Rattle.small_laws.proofs.NoFaults.{none_first, none_after, not_broken, impossible, left_false, right_false}
 use Rattle.form_laws.proofs.Typed.{not_other}
 use Rattle.form_laws.proofs.Folded.{Nests}
+use Rattle.kind_laws.proofs.NoFaults.{none_first, none_after, not_broken, impossible, left_false, right_false}
 
 pub small_number : (n : ℕ) → n < 2147483648 → in_range default_half (pos n) ≡ true
 small_number n h = grind (arith, h)

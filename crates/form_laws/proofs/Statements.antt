@@ -35,10 +35,10 @@ use Rattle.lower_assign.specs.Operations.{constant}
 use Rattle.lower_assign.specs.References.{declare_of}
 use Rattle.lower_assign.specs.Values.{value}
 use Rattle.lower_assign.specs.Statements.{yielded, all_yielded, left, item, is_whole_allocatable, assignment, bounds_of, all_bounds, allocation, deallocation, reading}
-use Rattle.small_laws.proofs.NoFaults.{none_first, none_after, not_broken, impossible}
 use Rattle.small_laws.proofs.Tables as tables
 use Rattle.kind_laws.proofs.TypeFacts.{same_type, no_type}
 use Rattle.kind_laws.proofs.ScopesFound.{allocatables_are_found}
+use Rattle.kind_laws.proofs.NoFaults.{none_first, none_after, not_broken, impossible}
 use Rattle.form_laws.proofs.Entries.{allocatable_kind}
 use Rattle.form_laws.proofs.Stages.{Stage, stage-region}
 use Rattle.form_laws.proofs.Regions.{Walks, walks-done, walks-then, walks-scoped, walks-yielded, walks-all_yielded, walks-statement}

@@ -29,7 +29,7 @@ use Rattle.lower_assign.specs.Values.{value, values, nested, subscripts, given_o
 use Rattle.kind_laws.specs.Found.{Holds}
 use Rattle.kind_laws.proofs.TypedExpressions.{types_are_known}
 use Rattle.kind_laws.proofs.Held.{held-first, held-rest}
-use Rattle.small_laws.proofs.NoFaults.{none_first, none_after, allowed, right_false}
+use Rattle.kind_laws.proofs.NoFaults.{none_first, none_after, allowed, right_false}
 use Rattle.form_laws.proofs.Operands.{IsFound}
 use Rattle.form_laws.proofs.Typed.{IsOf}
 use Rattle.form_laws.proofs.Walking.{Good, then-good, Leaves, then-leaves, done-leaves}
