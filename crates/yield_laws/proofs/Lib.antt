@@ -5,7 +5,6 @@ pub mod Walking
 pub mod Elements
 pub mod Regions
 pub mod Operations
-pub mod Refused
 pub mod Names
 pub mod Values
 pub mod Typed
