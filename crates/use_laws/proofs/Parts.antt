@@ -1,7 +1,6 @@
 -- What the grammar and the rules say of a construct in a source without variables: it is a WHERE or a workshare.
 use Rattle.std.proofs.Common.{◌≡◌, ℕ, false, ◌≤◌, List, [], ◌∷◌, length, Option, Some, None, arith}
 use mathlib.Core.Former.{Count}
-use Rattle.ws_base.specs.declared.refusal.RefusalKind.TheVariants as kind
 use Rattle.ws_tree.specs.declared.expr.Expr.{Expr}
 use Rattle.ws_tree.specs.declared.stmt.Index.{Index}
 use Rattle.ws_tree.specs.declared.stmt.Body.{Body}
@@ -17,10 +16,11 @@ use Rattle.ws_types.specs.Tables.{barred}
 use Rattle.ws_types.specs.Expressions.{faults}
 use Rattle.ws_sema.specs.declared.within.Within.{Within}
 use Rattle.ws_sema.specs.declared.within.Within.TheVariants as within
-use Rattle.ws_sema.specs.Statements.{is_inside, is_masked, is_outside, header_faults, under, mask_rank, else_control, body_faults, block_faults, elses_faults}
-use Rattle.kind_laws.proofs.NoFaults.{none_first, none_after, looked_into, allowed}
+use Rattle.ws_sema.specs.Statements.{header_faults, under, mask_rank, else_control, body_faults, block_faults, elses_faults}
+use Rattle.kind_laws.proofs.NoFaults.{none_first, none_after}
 use Rattle.kind_laws.proofs.Grammar.{where_parts, forall_parts, shared_parts, no_else}
 use Rattle.kind_laws.proofs.Sides.{sides_are_expressions}
+use Rattle.kind_laws.proofs.Faultless.{where_faultless, forall_faultless, loop_faultless, shared_faultless}
 use Rattle.use_laws.proofs.Standing.{HasNoVariables}
 use Rattle.use_laws.proofs.Clean.{no-variable, no-loop}
 use Rattle.use_laws.proofs.Values.{IsClean}
@@ -53,23 +53,18 @@ side_clean : (t : List Row) (line : ℕ) (e : Expr) → (HasNoVariables t → Is
 side_clean t line e h none = (sides_are_expressions t false line e (h none).0 (h none).1, (h none).1)
 
 module _ (t : List Row) (line : ℕ) (mask : Expr) (c : _) (block : _) (d : _) (rest : _) (h : HasNoVariables t → IsRight t line (Masked' mask c block d rest)) where
-  where_faultless : (none : HasNoVariables t) → ((faults t false line mask ≡ []) × (block_faults t (under t line mask) block ≡ []) × (elses_faults t line (mask_rank t mask) rest ≡ []))
-  where_faultless none =
-      let f = looked_into (is_inside (h none).around) line kind.Unsupported _ (h none).faultless in
-      let test = none_first _ _ f in (none_first _ _ (none_first _ _ test), none_after _ _ test, none_after _ _ f)
-
   pub where_mask : IsClean t line mask
-  where_mask = side_clean t line mask (λ none. ((where_parts (h none).place (h none).room line mask c block d rest (h none).stands).0, (where_faultless none).0))
+  where_mask = side_clean t line mask (λ none. ((where_parts (h none).place (h none).room line mask c block d rest (h none).stands).0, (where_faultless t (h none).around line mask c block d rest (h none).faultless).in_mask))
 
   pub where_block : HasNoVariables t → AreRight t block
   where_block none =
       let stands = (where_parts (h none).place (h none).room line mask c block d rest (h none).stands).1 in
-      record { place = stands.place; room = stands.room; around = under t line mask; stands = stands.stands; faultless = (where_faultless none).1 }
+      record { place = stands.place; room = stands.room; around = under t line mask; stands = stands.stands; faultless = (where_faultless t (h none).around line mask c block d rest (h none).faultless).in_block }
 
   pub where_rest : HasNoVariables t → ElsesAreRight t rest
   where_rest none =
       let stands = (where_parts (h none).place (h none).room line mask c block d rest (h none).stands).2 in
-      record { room = stands.room; line = line; first = mask_rank t mask; stands = stands.stands; faultless = (where_faultless none).2 }
+      record { room = stands.room; line = line; first = mask_rank t mask; stands = stands.stands; faultless = (where_faultless t (h none).around line mask c block d rest (h none).faultless).in_rest }
 
 some_index : (t b : List Row) (line : ℕ) (before is : List Index) → HasNoVariables t → 1 ≤ length is → header_faults t b line before is ≡ [] → ⊥
 some_index t b line before [] none h f = omega arith
@@ -79,17 +74,16 @@ some_index t b line before (i ∷ is) none h f =
 pub unused_forall : (t : List Row) (line : ℕ) (is : List Index) (mask : Option Expr) (c : _) (block : _) → (HasNoVariables t → IsRight t line (Forall' is mask c block)) → HasNoVariables t → ⊥
 unused_forall t line is mask c block h none =
     some_index t (barred t is) line [] is none (forall_parts (h none).place (h none).room line is mask c block (h none).stands).0.0
-    (none_first _ _ (none_first _ _ (looked_into (is_masked (h none).around) line kind.Unsupported _ (h none).faultless)))
+    (forall_faultless t (h none).around line is mask c block (h none).faultless).in_triplets
 
 pub unused_loop : (t : List Row) (line : ℕ) (x : List ℕ) (l u : Expr) (s : Option Expr) (c : _) (block : _) → (HasNoVariables t → IsRight t line (Loop' x l u s c block)) → HasNoVariables t → ⊥
 unused_loop t line x l u s c block h none =
-    let header = none_first _ _ (looked_into (is_masked (h none).around) line kind.Unsupported _ (h none).faultless) in
-    no-loop (h none).around line (standing_of t x) (none.each x) (none_after _ _ (none_first _ _ (none_first _ _ (none_first _ _ header))))
+    no-loop (h none).around line (standing_of t x) (none.each x) (loop_faultless t (h none).around line x l u s c block (h none).faultless).in_variable
 
 pub shared_block : (t : List Row) (line : ℕ) (c : _) (block : _) → (HasNoVariables t → IsRight t line (Shared' c block)) → HasNoVariables t → AreRight t block
 shared_block t line c block h none =
     let stands = shared_parts (h none).place (h none).room line c block (h none).stands in
-    record { place = stands.place; room = stands.room; around = within.Shared; stands = stands.stands; faultless = allowed (is_outside (h none).around) line kind.Unsupported _ (h none).faultless }
+    record { place = stands.place; room = stands.room; around = within.Shared; stands = stands.stands; faultless = shared_faultless t (h none).around line c block (h none).faultless }
 
 -- ---- lists
 
