@@ -1,6 +1,8 @@
 pub mod NoFaults
 pub mod Grammar
 pub mod Faultless
+pub mod TypesTold
+pub mod Ends
 pub mod Sited
 pub mod TypesKnown
 pub mod TypedExpressions
