@@ -22,10 +22,10 @@ use Rattle.lower_assign.specs.Known.{elem}
 use Rattle.lower_assign.specs.Statements.{left, is_whole_allocatable}
 use Rattle.yield_laws.proofs.Right.{IsRight, op-right}
 use Rattle.kind_laws.proofs.NoFaults.{not_false}
-use Rattle.yield_laws.proofs.Ends.{ops_in-first, ops_in-second}
+use Rattle.kind_laws.proofs.Ends.{ops_in-first, ops_in-second}
+use Rattle.kind_laws.proofs.TypesTold.{same_elem-same, not_other}
 use Rattle.yield_laws.proofs.Regions.{no-regions, more-regions, region-reached}
 use Rattle.yield_laws.proofs.Usable.{IsUsable}
-use Rattle.yield_laws.proofs.Typed.{same-elem, truth-is}
 use Rattle.yield_laws.proofs.Yielded.{IsYielding, first-kind, one-of, value-yielded, usable-yielded, yielded-reached}
 
 -- ---- truth values
@@ -56,8 +56,8 @@ ranks_agree a b h = two (nat_lt 0 b) refl
 pub sides_fit : (a b : Typed) (left right : ValueKind) → elem_of left ≡ elem a.truth → rank_of left ≡ a.rank → elem_of right ≡ elem b.truth → rank_of right ≡ b.rank → types_differ (Some a) (Some b) ≡ false → is_wrong_right (Some a) (Some b) ≡ false →
     sides_agree (Some right) (Some left) ≡ true
 sides_fit a b left right le lr re rr types ranks =
-    let same : b.truth ≡ a.truth = truth-is a.truth b types in
-    and_from _ _ (ap (λ e. same_elem e (elem_of left)) (re ∙ (ap elem same ∙ sym le)) ∙ same-elem (elem_of left))
+    let same : b.truth ≡ a.truth = not_other a.truth b types in
+    and_from _ _ (ap (λ e. same_elem e (elem_of left)) (re ∙ (ap elem same ∙ sym le)) ∙ same_elem-same (elem_of left))
     (ap (λ n. n == 0 || n == rank_of left) rr ∙ (ap (λ n. b.rank == 0 || b.rank == n) lr ∙ ranks_agree a.rank b.rank ranks))
 
 -- a left side without subscripts stands in no forall

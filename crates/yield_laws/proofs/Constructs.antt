@@ -42,11 +42,12 @@ use Rattle.kind_laws.proofs.ScopesKnown.{header_known}
 use Rattle.kind_laws.proofs.ScopesFound.{inside_found, loop_variables_are_found}
 use Rattle.yield_laws.proofs.Right.{IsRight, AreRight, op-right}
 use Rattle.kind_laws.proofs.NoFaults.{none_first, none_after, not_broken}
-use Rattle.yield_laws.proofs.Ends.{ops_in-first}
+use Rattle.kind_laws.proofs.Ends.{ops_in-first}
+use Rattle.kind_laws.proofs.TypesTold.{not_other, no_rank}
 use Rattle.yield_laws.proofs.Regions.{no-regions, more-regions, region-reached}
 use Rattle.yield_laws.proofs.Usable.{IsUsable}
 use Rattle.yield_laws.proofs.Walking.{walks-scoped}
-use Rattle.yield_laws.proofs.Typed.{IsOfType, walks-typed, scalar-of, truth-is, rank-none}
+use Rattle.yield_laws.proofs.Typed.{IsOfType, walks-typed, scalar-of}
 use Rattle.yield_laws.proofs.Yielded.{IsYielding, one-yielded, all-yielded, value-yielded, truth-yielded, integers-yielded, yielded-reached, usable-yielded}
 use Rattle.yield_laws.proofs.Headers.{AreIntegers, walks-triple, walks-triples}
 use Rattle.yield_laws.proofs.Scopes.{moved, knows-moved, found-moved}
@@ -268,7 +269,7 @@ walks-test vs t line s knows scope m n (Some e) h f =
     (walks-typed vs t true line s' (knows-moved t s s.masked s.line knows) (found-moved vs s s.masked s.line scope) e (sides_are_expressions t true line e h none) none j) held in
     let mask : scalar_mask_faults line (Some ty.0) ≡ [] = ap (scalar_mask_faults line) (sym ty.1) ∙ none_after _ _ f in
     test-right vs s.line m _ one.made one.yielding one.passes.usable
-    (scalar-of ty.0 true one.made.kind one.passes.type one.passes.usable.solid (truth-is true ty.0 (not_broken _ _ _ (none_first _ _ mask))) (rank-none ty.0 (not_broken _ _ _ (none_after _ _ mask))))))
+    (scalar-of ty.0 true one.made.kind one.passes.type one.passes.usable.solid (not_other true ty.0 (not_broken _ _ _ (none_first _ _ mask))) (no_rank ty.0 (not_broken _ _ _ (none_after _ _ mask))))))
 
 module _ (vs : List Value) (t : List Row) (line : ℕ) (s : Scope) (knows : Knows t s) (scope : ScopeIsFound vs s) where
   abbrev index_names : List Index → List Name

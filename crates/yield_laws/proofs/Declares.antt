@@ -1,5 +1,5 @@
 -- The declares of a source stand first, with different names.
-use Rattle.std.proofs.Common.{◌≡◌, refl, ap, ◌∙◌, ℕ, suc, ◌+◌, Bool, true, false, not, ◌&&◌, ◌||◌, List, [], ◌∷◌, ◌++◌, map, All, Option, Some, None, bytes_eq}
+use Rattle.std.proofs.Common.{◌≡◌, refl, ap, ◌∙◌, ℕ, suc, ◌+◌, Bool, true, false, not, ◌&&◌, ◌||◌, List, [], ◌∷◌, ◌++◌, map, All, Option, Some, None, bytes_eq, sym}
 use Rattle.std.specs.List.{list_all, list_any}
 use Rattle.std.proofs.lemmas.List.Elements.{All-nil, All-cons, All-append, All-same}
 use Rattle.std.proofs.lemmas.List.Folds.{list_all-append}
@@ -26,6 +26,7 @@ use Rattle.kind_laws.proofs.Sited.{op_sites-parts}
 use Rattle.kind_laws.proofs.NoFaults.{none_first, none_after, not_broken, left_false, right_false}
 use Rattle.yield_laws.proofs.Right.{Keeps}
 use Rattle.kind_laws.proofs.DeclaresFound.{declare_op, GivesDeclares}
+use Rattle.kind_laws.proofs.ConstantsKnown.{declared_more}
 
 -- what the declarations of a source become
 pub gives_declares : GivesDeclares declaration
@@ -62,12 +63,7 @@ abbrev Hides : List Decl → List Op → Type 0
 Hides ds ops = (x : Name) → is_declared ds x ≡ false → list_any (is_named x) ops ≡ false
 
 declared_push : (ds : List Decl) (d : Decl) (x : Name) → is_declared (ds ++ d ∷ []) x ≡ false → (is_declared ds x ≡ false) × (bytes_eq d.name x ≡ false)
-declared_push [] d x h = (refl, left_false _ _ h)
-declared_push (e ∷ ds) d x h = let rest = declared_push ds d x (right_false _ _ h) in (neither _ _ (left_false _ _ h) rest.0, rest.1)
-  where
-    neither : (a b : Bool) → a ≡ false → b ≡ false → (a || b) ≡ false
-    neither true b h k = h
-    neither false b h k = k
+declared_push ds d x h = let parts = sym (declared_more ds d x) ∙ h in (left_false _ _ parts, right_false _ _ parts)
 
 any_push : (test : Op → Bool) (ops : List Op) (op : Op) → list_any test ops ≡ false → test op ≡ false → list_any test (ops ++ op ∷ []) ≡ false
 any_push test [] op h g = ap (λ b. b || false) g

@@ -23,7 +23,7 @@ use Rattle.lower_assign.specs.Operations.{values_of, rank_from, arranged, on_sca
 use Rattle.kind_laws.specs.Found.{Holds, Found}
 use Rattle.yield_laws.proofs.Right.{IsRight, AreRight}
 use Rattle.kind_laws.proofs.Finding.{holds_first, holds_after}
-use Rattle.yield_laws.proofs.Ends.{is_last-push, front_of-push, parts-push}
+use Rattle.kind_laws.proofs.Ends.{is_last-push, front_of-push, parts-push}
 use Rattle.yield_laws.proofs.Usable.{IsUsable, is_plain, usable-reached, more-reached, all-reached, plain-right, given-usable}
 use Rattle.yield_laws.proofs.Walking.{Walks, walks-done, walks-then, walks-giving, walks-if}
 

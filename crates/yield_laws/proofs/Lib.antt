@@ -1,5 +1,4 @@
 pub mod Right
-pub mod Ends
 pub mod Usable
 pub mod Walking
 pub mod Elements

@@ -29,7 +29,7 @@ use Rattle.lower_assign.specs.Operations.{constant, values_of, rank_from, arrang
 use Rattle.kind_laws.specs.Found.{RegionsHeld}
 use Rattle.kind_laws.proofs.ScopesFound.{regions_are_held}
 use Rattle.yield_laws.proofs.Right.{IsRight, op-right}
-use Rattle.yield_laws.proofs.Ends.{ops_in-first}
+use Rattle.kind_laws.proofs.Ends.{ops_in-first}
 use Rattle.yield_laws.proofs.Regions.{no-regions, more-regions, region-reached}
 use Rattle.yield_laws.proofs.Usable.{IsUsable, IsValue, is_solid, usable-reached, more-reached, all-reached, gives-value, given-usable}
 use Rattle.yield_laws.proofs.Walking.{Walks, walks-done, walks-value, walks-if}

@@ -33,7 +33,7 @@ use Rattle.kind_laws.proofs.TypedExpressions.{types_are_known}
 use Rattle.kind_laws.proofs.Sides.{sides_are_expressions}
 use Rattle.yield_laws.proofs.Right.{IsRight, op-right}
 use Rattle.kind_laws.proofs.NoFaults.{none_first, none_after, not_broken, left_false, right_false}
-use Rattle.yield_laws.proofs.Ends.{ops_in-first}
+use Rattle.kind_laws.proofs.Ends.{ops_in-first}
 use Rattle.yield_laws.proofs.Regions.{no-regions, more-regions, region-reached}
 use Rattle.yield_laws.proofs.Usable.{IsValue, plain-right}
 use Rattle.yield_laws.proofs.Walking.{Walks, walks-scoped}

@@ -18,7 +18,7 @@ use Rattle.lower_assign.specs.Statements.{yielded, all_yielded}
 use Rattle.kind_laws.specs.Found.{Holds, Found}
 use Rattle.yield_laws.proofs.Right.{IsRight, AreRight}
 use Rattle.kind_laws.proofs.Finding.{holds_first}
-use Rattle.yield_laws.proofs.Ends.{parts-yield, yields-push}
+use Rattle.kind_laws.proofs.Ends.{parts-yield, yields-push}
 use Rattle.yield_laws.proofs.Usable.{IsUsable, IsValue, plain-right, usable-reached, more-reached}
 use Rattle.yield_laws.proofs.Walking.{Walks}
 use Rattle.yield_laws.proofs.Elements.{kind-found}
