@@ -42,9 +42,9 @@ use Rattle.place_laws.proofs.PlainSides.{plain-all_yielded, plain-triple, plain-
 use Rattle.kind_laws.proofs.Held.{held-rest, held-statement}
 use Rattle.kind_laws.proofs.ScopesKnown.{forall_known, loop_known}
 use Rattle.kind_laws.proofs.ScopesFound.{inside_found}
-use Rattle.place_laws.proofs.Yields.{second-region}
 use Rattle.kind_laws.proofs.Grammar.{where_parts, else_parts, forall_parts, loop_parts, shared_parts}
 use Rattle.kind_laws.proofs.Faultless.{where_faultless, else_faultless, forall_faultless, loop_faultless, shared_faultless}
+use Rattle.kind_laws.proofs.Ends.{ops_in-second}
 use Rattle.place_laws.proofs.Keeping.{Keeps, keeps-done, keeps-then, keeps-region, keeps-where, keeps-elsewhere, elsewhere-is}
 use Rattle.place_laws.proofs.WhereBodies.{where-fits, elsewhere-fits}
 use Rattle.place_laws.proofs.ForallBodies.{forall-fits}
@@ -95,7 +95,7 @@ module _ (vs : List Value) where
       let known : Knows (inner t is) d = forall_known t s is line line m header k in
       let scope : ScopeIsFound vs d = inside_found vs s w line 1 m after.0 there in
       let held = after.1 in
-      let fits = ap (fits_forall vs) (second-region (region_of (p c i).ops) (q d j).ops []) ∙ forall-fits vs place room (inner t is) line mask block d j g a f inside_f known scope held in
+      let fits = ap (fits_forall vs) (ops_in-second (region_of (p c i).ops) (q d j).ops []) ∙ forall-fits vs place room (inner t is) line mask block d j g a f inside_f known scope held in
       makes-statement T s n w line [] ps (bodies-op vs w line [] None (regions_from w line 0 (n + 0) ps s) refl fits)
       (regions-more T s (n + 0) w line 0 p (q ∷ []) (free-plain vs p (plain-all_yielded (triples is) (plain-triples is)) c i)
       (regions-more T s m w line 1 q []

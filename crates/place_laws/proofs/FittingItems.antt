@@ -1,9 +1,8 @@
 -- The ops of one ALLOCATE, DEALLOCATE or READ, and declares, fit one after another.
-use Rattle.std.proofs.Common.{◌≡◌, refl, sym, ap, ◌∙◌, subst, ℕ, suc, ◌+◌, ◌==◌, Bool, true, false, ◌||◌, List, [], ◌∷◌, ◌++◌, length, Option, Some, None, nat_lt, true≢false, arith}
-use Rattle.std.specs.Prelude.{⊤, not, ◌&&◌, ◌-◌, slice_get}
+use Rattle.std.proofs.Common.{◌≡◌, refl, sym, ap, ◌∙◌, subst, ℕ, suc, ◌+◌, ◌==◌, Bool, true, false, ◌||◌, List, [], ◌∷◌, ◌++◌, Option, Some, None, nat_lt, true≢false, arith}
+use Rattle.std.specs.Prelude.{⊤, not, ◌&&◌}
 use Rattle.std.specs.List.{list_all}
 use Rattle.ws_base.specs.declared.name.Name.{Name}
-use Rattle.std.proofs.lemmas.List.{length_push}
 use Rattle.std.proofs.lemmas.Bool.{and_from}
 use Rattle.hlfir_ops.specs.declared.kinds.ValueKind.{ValueKind}
 use Rattle.hlfir_ops.specs.declared.what.What.{What}
@@ -25,14 +24,7 @@ use Rattle.lower_constructs.specs.Modules.{declaration}
 use Rattle.place_laws.proofs.Printed.{all-append, parts-op_of}
 use Rattle.place_laws.proofs.PlainSides.{plain-yielded, plain-all_yielded, plain-left_of, plain-all_bounds}
 use Rattle.place_laws.proofs.Fitting.{Fits, AllEnter, enters-plain, fits-none, fits-append, fits-op, fits-by, fill-from, fits-done, fits-then, lists_fit-by}
-
-at-end : {A : Type 0} (xs : List A) (x : A) → slice_get (xs ++ x ∷ []) (length xs) ≡ Some x
-at-end [] x = refl
-at-end (y ∷ xs) x = at-end xs x
-
-pub last-push : (before : List Op) (op : Op) → last_of (before ++ op ∷ []) ≡ Some op
-last-push before op =
-    let place : length (before ++ op ∷ []) - 1 ≡ length before = omega (arith, length_push before op) in ap (slice_get (before ++ op ∷ [])) place ∙ at-end before op
+use Rattle.kind_laws.proofs.Ends.{last_of-push}
 
 -- ---- items
 
@@ -96,7 +88,7 @@ module _ {A : Type 0} (f : Bool → A → Lowering ⊤) (w : Bool → What) (lin
   ends-like before also other operands regions =
       let op = op_of (w also) line operands None regions in
       let parts = parts-op_of (w also) line operands None regions in
-      record { last = op; is = last-push before op; sort = ap (λ g. same_sort g.what (w other)) parts ∙ items.same also other; on = ap (λ g. g.line) parts }
+      record { last = op; is = last_of-push before op; sort = ap (λ g. same_sort g.what (w other)) parts ∙ items.same also other; on = ap (λ g. g.line) parts }
 
   after-first : (late : Bool) (before : List Op) (also : Bool) (operands : List ValueId) (regions : List Region) → IsAfter late (w late) line (before ++ op_of (w also) line operands None regions ∷ [])
   after-first true before also operands regions = ends-like before also true operands regions

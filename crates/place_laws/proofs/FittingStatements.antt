@@ -36,10 +36,10 @@ use Rattle.lower_assign.specs.Statements.{yielded, all_yielded, left, is_whole_a
 use Rattle.lower_constructs.specs.Modules.{triple, triples, forall_mask, third, elsewhere, statement, statements, elsewheres, statement_list, declaration, lowered}
 use Rattle.kind_laws.proofs.NoFaults.{none_first, none_after}
 use Rattle.place_laws.specs.Laws.{ListsFit}
-use Rattle.place_laws.proofs.Printed.{ops-region_of}
 use Rattle.place_laws.proofs.PlainValues.{plain-value}
 use Rattle.place_laws.proofs.PlainSides.{plain-yielded, plain-all_yielded, plain-left, plain-triple, plain-triples}
 use Rattle.kind_laws.proofs.Faultless.{where_faultless, forall_faultless, loop_faultless, shared_faultless}
+use Rattle.kind_laws.proofs.Ends.{ops-region_of}
 use Rattle.place_laws.proofs.Sorts.{program_block, shared_block}
 use Rattle.place_laws.proofs.Fitting.{fit, Fits, Enters, AllEnter, enters-plain, fits-by, fits-done, fits-then, fits-scoped, fits-statement}
 use Rattle.place_laws.proofs.FittingItems.{items-fit, allocations, deallocations, readings, declares-fit}

@@ -1,6 +1,6 @@
 -- What the rules on masks, sides and left sides say where none is broken.
 use Rattle.std.proofs.Common.{◌≡◌, refl, sym, ap, ◌∙◌, ℕ, Bool, true, false, not, ◌||◌, List, [], ◌++◌, Option, Some, None, nat_eq, nat_lt, true≢false, if◌then◌else◌, arith}
-use Rattle.std.proofs.lemmas.Bool.{and_from, eqb-true, ltb-false}
+use Rattle.std.proofs.lemmas.Bool.{and_from, eqb-true}
 use Rattle.ws_tree.specs.declared.expr.Expr.{Expr}
 use Rattle.ws_types.specs.declared.types.Typed.{Typed}
 use Rattle.ws_types.specs.declared.types.Row.{Row}
@@ -16,6 +16,7 @@ use Rattle.lower_assign.specs.Known.{elem}
 use Rattle.kind_laws.specs.Laws.{HasType}
 use Rattle.kind_laws.proofs.NoFaults.{none_first, none_after, not_broken, left_false, right_false, not_false}
 use Rattle.kind_laws.proofs.TypedExpressions.{type_known}
+use Rattle.kind_laws.proofs.TypesTold.{not_above}
 
 -- where it is not refused outright, nothing in it is
 -- ---- masks
@@ -84,9 +85,6 @@ unfolding control_faults
 control-rank line r left ty is f = same-rank r ty (ap (is_other_rank (Some r)) (sym is) ∙ not_broken _ _ _ f)
 
 -- ---- in a FORALL
-
-not_above : (n : ℕ) → nat_lt 0 n ≡ false → n ≡ 0
-not_above n h = let low = ltb-false 0 n h in omega (arith, low)
 
 pub record ScalarSides (bare : Bool) (a b : Option Typed) : Type 0 where
   pub left : (ty : Typed) → a ≡ Some ty → ty.rank ≡ 0

@@ -8,11 +8,12 @@ use Rattle.hlfir_ops.specs.declared.kinds.ValueKind.{ValueKind}
 use Rattle.hlfir_ops.specs.declared.what.What.{What}
 use Rattle.hlfir_ops.specs.declared.op.ValueId.{ValueId}
 use Rattle.hlfir_ops.specs.declared.op.Op.{Op, Op', out-Op, out-roll-Op}
-use Rattle.hlfir_ops.specs.declared.op.Region.{Region, Region', out-Region, out-roll-Region}
+use Rattle.hlfir_ops.specs.declared.op.Region.{Region, Region'}
 use Rattle.hlfir_ops.specs.Trees.{Ops, end_ops, more_ops, Regions, end_regions, more_regions, op_of, region_of}
 use Rattle.hlfir_ops.specs.Numbers.{names_in, own_numbers, op_numbers, ops_numbers, op_order, regions_order, ops_order, order_of, order_in}
 use Rattle.hlfir_ops.specs.RulesPlaces.{Around, Place, Site, around_in, from_number, own_defined, op_sites, regions_sites, ops_sites, sites_of}
 use Rattle.hlfir_ops.proofs.Order.{op_order-parts, order_of-append}
+use Rattle.kind_laws.proofs.Ends.{ops-region_of}
 
 -- ---- truth values
 
@@ -75,9 +76,6 @@ module _ (P : Around → Type 0) (inner : (a : Around) (w : What) (k : ℕ) → 
 
 pub parts-op_of : (w : What) (line : ℕ) (operands : List ValueId) (kind : Option ValueKind) (regions : List Region) → out-Op (op_of w line operands kind regions) ≡ (record { what = w; line = line; operands = operands; kind = kind; regions = regions })
 parts-op_of w line operands kind regions = out-roll-Op (record { what = w; line = line; operands = operands; kind = kind; regions = regions })
-
-pub ops-region_of : (ops : List Op) → (out-Region (region_of ops)).ops ≡ ops
-ops-region_of ops = ap (λ f. f.ops) (out-roll-Region (record { ops = ops }))
 
 -- ---- what holds of all ops in printed order, list by list
 
