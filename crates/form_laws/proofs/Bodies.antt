@@ -23,7 +23,8 @@ use Rattle.kind_laws.specs.Found.{Holds}
 use Rattle.form_laws.proofs.Passing.{AreFit, fit-append, fit-op, fit-region}
 use Rattle.kind_laws.proofs.ScopesFound.{regions_are_held}
 use Rattle.kind_laws.proofs.Finding.{holds_first, holds_after, own_value}
-use Rattle.form_laws.proofs.Operands.{same_elem-same, AreScalars, Made}
+use Rattle.kind_laws.proofs.TypesTold.{same_elem-same}
+use Rattle.form_laws.proofs.Operands.{AreScalars, Made}
 use Rattle.form_laws.proofs.Elementals.{elems_of, TakesScalars, Conform, AllPositioned, positions-positioned}
 
 -- the last one of a list

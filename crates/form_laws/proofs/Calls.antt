@@ -26,11 +26,12 @@ use Rattle.lower_assign.specs.Lowerings.{giving}
 use Rattle.lower_assign.specs.Operations.{values_of, operation, total, call_on, vector, nesting_of}
 use Rattle.kind_laws.specs.Found.{Holds}
 use Rattle.form_laws.proofs.Passing.{fit-op}
-use Rattle.form_laws.proofs.Operands.{same_elem-same, scalar_kind, array_kind}
-use Rattle.form_laws.proofs.Typed.{not_other, IsOf, AreOf, unary-made, binary-made, select-made}
+use Rattle.form_laws.proofs.Operands.{scalar_kind, array_kind}
+use Rattle.form_laws.proofs.Typed.{IsOf, AreOf, unary-made, binary-made, select-made}
 use Rattle.form_laws.proofs.Walking.{Good, good-made}
 use Rattle.kind_laws.proofs.Arguments.{argued}
 use Rattle.kind_laws.proofs.NoFaults.{none_first, none_after, not_broken, left_false, right_false}
+use Rattle.kind_laws.proofs.TypesTold.{not_other, same_elem-same}
 use Rattle.form_laws.proofs.Arguments.{Each, AreSingle, same_choice}
 
 module _ (vs : List Value) where

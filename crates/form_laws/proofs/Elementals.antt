@@ -22,7 +22,8 @@ use Rattle.lower_assign.specs.Operations.{values_of, arranged, on_scalars, at_po
 use Rattle.kind_laws.specs.Found.{Holds}
 use Rattle.form_laws.proofs.Passing.{AreFit, fit-none, fit-append, fit-op, part_fits}
 use Rattle.kind_laws.proofs.Finding.{holds_first, holds_after, own_value}
-use Rattle.form_laws.proofs.Operands.{same_elem-same, scalar_kind, array_kind, IsFound, Stands, AreScalars}
+use Rattle.kind_laws.proofs.TypesTold.{same_elem-same}
+use Rattle.form_laws.proofs.Operands.{scalar_kind, array_kind, IsFound, Stands, AreScalars}
 
 abbrev pub elems_of : List Operand → List Elem
 elems_of = map (λ x. elem_of x.kind)

@@ -19,7 +19,8 @@ use Rattle.lower_assign.specs.Operations.{values_of, arranged, on_scalars, at_ea
 use Rattle.kind_laws.specs.Found.{Holds}
 use Rattle.form_laws.proofs.Passing.{part_fits}
 use Rattle.kind_laws.proofs.Finding.{own_value}
-use Rattle.form_laws.proofs.Operands.{same_elem-same, scalar_kind, AreScalars, Made}
+use Rattle.kind_laws.proofs.TypesTold.{same_elem-same}
+use Rattle.form_laws.proofs.Operands.{scalar_kind, AreScalars, Made}
 use Rattle.form_laws.proofs.Elementals.{elems_of, HasRank, TakesScalars, Conform, on_scalars-fit}
 use Rattle.form_laws.proofs.Bodies.{at_each-made}
 

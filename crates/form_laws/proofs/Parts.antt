@@ -21,8 +21,9 @@ use Rattle.lower_assign.specs.Scopes.{Scope}
 use Rattle.lower_assign.specs.Lowerings.{Lowering, Lowered, ◌>>=◌, giving}
 use Rattle.lower_assign.specs.References.{sub_kind, sub_values, subscript_of, part_kind, designated}
 use Rattle.kind_laws.specs.Found.{Holds}
+use Rattle.kind_laws.proofs.TypesTold.{same_elem-same}
 use Rattle.form_laws.proofs.Passing.{part_fits, AreFit, fit-append}
-use Rattle.form_laws.proofs.Operands.{same_elem-same, scalar_kind, array_kind, IsFound, giving-found, giving-fit}
+use Rattle.form_laws.proofs.Operands.{scalar_kind, array_kind, IsFound, giving-found, giving-fit}
 use Rattle.form_laws.proofs.Typed.{IsOf}
 use Rattle.form_laws.proofs.References.{IsLoadable}
 

@@ -24,11 +24,12 @@ use Rattle.lower_assign.specs.References.{variable_of, or_nothing, declare_of, b
 use Rattle.kind_laws.specs.Standing.{FitsEntry, EntryIsKnown, NameIsKnown}
 use Rattle.kind_laws.specs.Found.{Holds, ScopeIsFound}
 use Rattle.form_laws.proofs.Passing.{part_fits, AreFit, fit-none, fit-op}
-use Rattle.form_laws.proofs.Operands.{same_elem-same, IsSolid, IsFound, giving-found, giving-fit}
+use Rattle.form_laws.proofs.Operands.{IsSolid, IsFound, giving-found, giving-fit}
 use Rattle.form_laws.proofs.Walking.{Good, then-good, done-good}
 use Rattle.kind_laws.proofs.FormsFound.{declare_found}
 use Rattle.kind_laws.proofs.Held.{held-first}
 use Rattle.kind_laws.proofs.NoFaults.{none_first, none_after, impossible}
+use Rattle.kind_laws.proofs.TypesTold.{same_elem-same}
 
 -- a place, or the kind of a value
 abbrev pub IsLoadable : ValueKind → Type 0

@@ -30,6 +30,7 @@ use Rattle.kind_laws.specs.Found.{Holds}
 use Rattle.kind_laws.proofs.TypedExpressions.{types_are_known}
 use Rattle.kind_laws.proofs.Held.{held-first, held-rest}
 use Rattle.kind_laws.proofs.NoFaults.{none_first, none_after, allowed, right_false}
+use Rattle.kind_laws.proofs.TypesTold.{scalar_says}
 use Rattle.form_laws.proofs.Operands.{IsFound}
 use Rattle.form_laws.proofs.Typed.{IsOf}
 use Rattle.form_laws.proofs.Walking.{Good, then-good, Leaves, then-leaves, done-leaves}
@@ -40,7 +41,7 @@ use Rattle.form_laws.proofs.Inquiries.{inquiry-good}
 use Rattle.form_laws.proofs.Wholes.{parentheses-good}
 use Rattle.form_laws.proofs.Folded.{is_right, chosen, not_chosen, folded-good, call_by-good, IsSoFar, so_far-good, joined-leaves}
 use Rattle.form_laws.proofs.Stages.{Stage}
-use Rattle.form_laws.proofs.Says.{small_number, scalar_says, subscript_says, unary_says, nested_says, no_wide}
+use Rattle.form_laws.proofs.Says.{small_number, subscript_says, unary_says, nested_says, no_wide}
 use Rattle.form_laws.proofs.Lowered as lowered
 
 module _ (vs : List Value) (t : List Row) (s : Scope) (stage : Stage vs t s) (inside : Bool) (line : ℕ) where

@@ -12,8 +12,9 @@ use Rattle.lower_assign.specs.Scopes.{Scope}
 use Rattle.lower_assign.specs.Lowerings.{giving}
 use Rattle.lower_assign.specs.Operations.{in_parentheses, value_of_whole, as_expr}
 use Rattle.form_laws.proofs.Passing.{fit-op}
-use Rattle.form_laws.proofs.Operands.{same_elem-same, IsSolid, Stands}
+use Rattle.form_laws.proofs.Operands.{IsSolid, Stands}
 use Rattle.form_laws.proofs.Walking.{Good, done-good}
+use Rattle.kind_laws.proofs.TypesTold.{same_elem-same}
 
 module _ (vs : List Value) (s : Scope) (n : ℕ) (x : Operand) (h : Stands vs x) where
   whole-good : (e : Elem) (rank : ℕ) → is_reference (Some x.kind) ≡ true → elem_of x.kind ≡ e → rank_of x.kind ≡ rank → (rank == 0) ≡ false → Good vs (as_expr x e rank s n)
