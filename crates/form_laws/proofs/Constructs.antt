@@ -2,6 +2,7 @@
 use Rattle.std.proofs.Common.{◌≡◌, refl, ap, ◌∙◌, ℕ, ◌+◌, true, false, ◌&&◌, nat_lt, List, [], ◌∷◌, ◌++◌, length, All, Option, Some, None, arith}
 use Rattle.std.specs.Prelude.{⊤}
 use Rattle.std.proofs.lemmas.List.Elements.{All-head, All-tail}
+use Rattle.std.specs.List.{AllByRecursion}
 use mathlib.Core.Former.{Count}
 use Rattle.ws_base.specs.declared.name.Name.{Name}
 use Rattle.ws_tree.specs.declared.expr.Expr.{Expr}
@@ -26,21 +27,21 @@ use Rattle.lower_assign.specs.Lists.{stride}
 use Rattle.lower_assign.specs.Statements.{yielded}
 use Rattle.lower_constructs.specs.Modules.{triple, triples, forall_mask, third, elsewhere, elsewheres}
 use Rattle.form_laws.proofs.Stages.{Stage, stage-region}
-use Rattle.form_laws.proofs.Regions.{AllOf, Walks, walks-done, walks-then, walks-scoped, walks-yielded, RegionWalks, walks-statement}
+use Rattle.form_laws.proofs.Regions.{Walks, walks-done, walks-then, walks-scoped, walks-yielded, RegionWalks, walks-statement}
 use Rattle.form_laws.proofs.Sides.{walks-side, walks-stride}
 use Rattle.kind_laws.proofs.NoFaults.{none_first, none_after}
 
 -- ---- lists of items
 
-pub parts_of : (t : List Row) (line : ℕ) (ps : List Part) → All IsPart ps → allocations_faults t line ps ≡ [] → AllOf (λ p. IsPart p × (allocation_faults t line p ≡ [])) ps
+pub parts_of : (t : List Row) (line : ℕ) (ps : List Part) → All IsPart ps → allocations_faults t line ps ≡ [] → AllByRecursion (λ p. IsPart p × (allocation_faults t line p ≡ [])) ps
 parts_of t line [] h f = tt
 parts_of t line (p ∷ ps) h f = ((All-head IsPart p ps h, none_first _ _ f), parts_of t line ps (All-tail IsPart p ps h) (none_after _ _ f))
 
-pub names_of : (t : List Row) (line : ℕ) (xs : List Name) → deallocations_faults t line xs ≡ [] → AllOf (λ x. deallocation_faults t line x ≡ []) xs
+pub names_of : (t : List Row) (line : ℕ) (xs : List Name) → deallocations_faults t line xs ≡ [] → AllByRecursion (λ x. deallocation_faults t line x ≡ []) xs
 names_of t line [] f = tt
 names_of t line (x ∷ xs) f = (none_first _ _ f, names_of t line xs (none_after _ _ f))
 
-pub items_of : (t : List Row) (line : ℕ) (es : List Expr) → All IsDesignator es → items_faults t line es ≡ [] → AllOf (λ e. IsDesignator e × (item_faults t line e ≡ [])) es
+pub items_of : (t : List Row) (line : ℕ) (es : List Expr) → All IsDesignator es → items_faults t line es ≡ [] → AllByRecursion (λ e. IsDesignator e × (item_faults t line e ≡ [])) es
 items_of t line [] h f = tt
 items_of t line (e ∷ es) h f = ((All-head IsDesignator e es h, none_first _ _ f), items_of t line es (All-tail IsDesignator e es h) (none_after _ _ f))
 

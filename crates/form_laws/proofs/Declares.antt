@@ -1,6 +1,7 @@
 -- The declares of a source have their forms.
 use Rattle.std.proofs.Common.{◌≡◌, refl, ℕ, suc, Bool, true, false, nat_lt, List, [], ◌∷◌, ◌++◌, map, Some}
 use Rattle.std.proofs.lemmas.Bool.{true≢false, false≢true}
+use Rattle.std.specs.List.{AllByRecursion}
 use Rattle.ws_space.specs.declared.shape.Dim.{Dim}
 use Rattle.ws_space.specs.Shapes.{shape_of}
 use Rattle.ws_tree.specs.declared.stmt.Bound.{Bound}
@@ -19,7 +20,7 @@ use Rattle.lower_constructs.specs.Modules.{declaration}
 use Rattle.form_laws.proofs.Passing.{fit-op}
 use Rattle.kind_laws.proofs.DeclaresFound.{GivesDeclares}
 use Rattle.kind_laws.proofs.NoFaults.{none_first, none_after, not_broken}
-use Rattle.form_laws.proofs.Regions.{AllOf, Walks, walks-then, walks-done, walks-in_turn}
+use Rattle.form_laws.proofs.Regions.{Walks, walks-then, walks-done, walks-in_turn}
 
 -- ---- kinds of variables
 
@@ -36,15 +37,15 @@ shaped-one : (cs : List Constant) (d : Decl) → shape_faults cs d ≡ [] → Is
 unfolding shape_faults
 shaped-one cs d f = has_shape d.allocatable (is_some d.constant) (is_empty d.shape) (not_broken _ _ _ (none_first _ _ f))
 
-shaped : (before : List Decl) (cs : List Constant) (ds : List Decl) → decls_faults before cs ds ≡ [] → AllOf IsShaped ds
+shaped : (before : List Decl) (cs : List Constant) (ds : List Decl) → decls_faults before cs ds ≡ [] → AllByRecursion IsShaped ds
 shaped before cs [] f = tt
 shaped before cs (d ∷ ds) f = (shaped-one cs d (none_after _ _ (none_first _ _ f)), shaped (before ++ d ∷ []) (with_constant cs d) ds (none_after _ _ f))
 
-one_variable : (b : Bool) (d : Decl) (ds : List Decl) → IsShaped d → AllOf IsShaped ds → AllOf IsShaped (if_variable b d ++ ds)
+one_variable : (b : Bool) (d : Decl) (ds : List Decl) → IsShaped d → AllByRecursion IsShaped ds → AllByRecursion IsShaped (if_variable b d ++ ds)
 one_variable true d ds h g = (h, g)
 one_variable false d ds h g = g
 
-variables_shaped : (ds : List Decl) → AllOf IsShaped ds → AllOf IsShaped (variable_decls ds)
+variables_shaped : (ds : List Decl) → AllByRecursion IsShaped ds → AllByRecursion IsShaped (variable_decls ds)
 variables_shaped [] h = tt
 variables_shaped (d ∷ ds) h = one_variable (declares_variable d.constant) d (variable_decls ds) h.0 (variables_shaped ds h.1)
 
@@ -62,11 +63,11 @@ variable_is false e cs (b ∷ bs) h = some_rank (bound_dim cs b) (map (bound_dim
 abbrev pub IsVariable : Variable → Type 0
 IsVariable v = is_variable (Some v.declare.kind) ≡ true
 
-numbered_are : (n : ℕ) (cs : List Constant) (ds : List Decl) → AllOf IsShaped ds → AllOf IsVariable (numbered n cs ds)
+numbered_are : (n : ℕ) (cs : List Constant) (ds : List Decl) → AllByRecursion IsShaped ds → AllByRecursion IsVariable (numbered n cs ds)
 numbered_are n cs [] h = tt
 numbered_are n cs (d ∷ ds) h = (variable_is d.allocatable (elem d.truth) cs d.shape h.0, numbered_are (suc n) cs ds h.1)
 
-pub variables-are : (cs : List Constant) (ds : List Decl) → decls_faults [] [] ds ≡ [] → AllOf IsVariable (numbered 0 cs (variable_decls ds))
+pub variables-are : (cs : List Constant) (ds : List Decl) → decls_faults [] [] ds ≡ [] → AllByRecursion IsVariable (numbered 0 cs (variable_decls ds))
 variables-are cs ds f = numbered_are 0 cs (variable_decls ds) (variables_shaped ds (shaped [] [] ds f))
 
 module _ (vs : List Value) where
@@ -75,7 +76,7 @@ module _ (vs : List Value) where
   walks-declaration s k v h = walks-then vs s (giving (what.Declare v.name) [] v.declare.kind) (λ _. done tt)
       (record { fits = λ n held. fit-op vs false (what.Declare v.name) s.line [] (Some v.declare.kind) [] h tt }) (λ _. walks-done vs s tt)
 
-  pub walks-declarations : (s : Scope) (k : ℕ) (variables : List Variable) → AllOf IsVariable variables → Walks vs s (in_turn declaration k variables)
+  pub walks-declarations : (s : Scope) (k : ℕ) (variables : List Variable) → AllByRecursion IsVariable variables → Walks vs s (in_turn declaration k variables)
   walks-declarations s k variables h = walks-in_turn vs s IsVariable declaration k variables (λ j v is. walks-declaration s j v is) h
 
 -- ---- what they are

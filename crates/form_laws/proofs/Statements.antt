@@ -1,6 +1,6 @@
 -- The statements that hold no others.
 use Rattle.std.proofs.Common.{◌≡◌, refl, sym, ap, ◌∙◌, ℕ, ◌+◌, ◌*◌, ◌%◌, ◌==◌, Bool, true, false, not, ◌&&◌, ◌||◌, nat_eq, List, [], ◌∷◌, ◌++◌, length, All, Option, Some, None, IfSome, pos, arith}
-use Rattle.std.proofs.lemmas.Bool.{true≢false, and_from}
+use Rattle.std.proofs.lemmas.Bool.{true≢false, and_from, or_right}
 use Rattle.std.proofs.lemmas.List.Elements.{All-head, All-tail}
 use Rattle.ws_base.specs.declared.name.Name.{Name}
 use Rattle.ws_base.specs.declared.refusal.RefusalKind.TheVariants as refusal
@@ -65,11 +65,7 @@ allocated_rank line (Some Index) e count h f is g = absurd (true≢false (not_br
 allocated_rank line (Some Barred) e count h f is g = no_type (entry_type e) is
 
 paired : (n rank : ℕ) → n ≡ rank * 2 → (not (n % 2 == 0) || n == rank * 2) ≡ true
-paired n rank h = let same : (n == rank * 2) ≡ true = grind (arith, h) in either (not (n % 2 == 0)) (n == rank * 2) same
-  where
-    either : (a b : Bool) → b ≡ true → (a || b) ≡ true
-    either true b h = refl
-    either false b h = h
+paired n rank h = let same : (n == rank * 2) ≡ true = grind (arith, h) in or_right (not (n % 2 == 0)) (n == rank * 2) same
 
 module _ (vs : List Value) (t : List Row) (s : Scope) (h : Stage vs t s) where
   -- ---- assignment
