@@ -1,8 +1,8 @@
 -- The body of a FORALL holds a mask at most, and then assignments of scalars to elements.
-use Rattle.std.proofs.Common.{◌≡◌, refl, sym, ap, ◌∙◌, ℕ, ◌+◌, Bool, true, false, not, ◌||◌, ◌&&◌, List, [], ◌∷◌, ◌++◌, map, Option, Some, None, true≢false}
+use Rattle.std.proofs.Common.{◌≡◌, refl, sym, ap, ◌∙◌, ℕ, ◌+◌, true, false, not, ◌||◌, ◌&&◌, List, [], ◌∷◌, ◌++◌, map, Option, Some, None, true≢false}
 use Rattle.std.specs.Prelude.{⊤}
 use Rattle.std.specs.List.{list_all, flat_map}
-use Rattle.std.proofs.lemmas.Bool.{and_from}
+use Rattle.std.proofs.lemmas.Bool.{and_from, or_right, and_parts}
 use mathlib.Core.Former.{Count}
 use Rattle.ws_base.specs.declared.refusal.RefusalKind.TheVariants as kind
 use Rattle.ws_tree.specs.declared.expr.Expr.{Expr}
@@ -37,7 +37,7 @@ use Rattle.lower_assign.specs.References.{reference, sub_kind, sub_values, part_
 use Rattle.lower_assign.specs.Values.{value, part_of, subscripts}
 use Rattle.lower_assign.specs.Statements.{yielded, left, is_whole_allocatable, assignment}
 use Rattle.lower_constructs.specs.Modules.{forall_mask, statement, statements}
-use Rattle.place_laws.proofs.Printed.{first_true, second_true, all-append, parts-op_of}
+use Rattle.place_laws.proofs.Printed.{all-append, parts-op_of}
 use Rattle.place_laws.proofs.Lowered.{Makes, makes-then, makes-acting, makes-statement, regions-none, regions-more}
 use Rattle.place_laws.proofs.Scalars.{Works, works-op, works-after}
 use Rattle.place_laws.proofs.ScalarValues.{works-value, works-part}
@@ -202,10 +202,7 @@ module _ (vs : List Value) where
 
 assignments_alone : (ops : List Op) → list_all assigns ops ≡ true → is_forall_body ops ≡ true
 assignments_alone [] h = refl
-assignments_alone (op ∷ ops) h = ap (λ b. b && list_all assigns ops) (or_is (is_forall_mask (out-Op op).what) (assigns op) (first_true (assigns op) (list_all assigns ops) h)) ∙ second_true (assigns op) (list_all assigns ops) h where
-  or_is : (b c : Bool) → c ≡ true → (b || c) ≡ true
-  or_is true c h = refl
-  or_is false c h = h
+assignments_alone (op ∷ ops) h = ap (λ b. b && list_all assigns ops) (or_right (is_forall_mask (out-Op op).what) (assigns op) ((and_parts (assigns op) (list_all assigns ops) h).0)) ∙ (and_parts (assigns op) (list_all assigns ops) h).1
 
 -- a mask at most, and then assignments
 one_mask : (mask : Option Expr) (s : Scope) (n : ℕ) (ops : List Op) → list_all assigns ops ≡ true → is_forall_body ((forall_mask mask s n).ops ++ ops) ≡ true

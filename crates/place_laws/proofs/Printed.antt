@@ -1,8 +1,8 @@
 -- What holds of all ops in printed order.
-use Rattle.std.proofs.Common.{◌≡◌, refl, sym, ap, ◌∙◌, ℕ, suc, ◌+◌, Bool, true, false, ◌&&◌, List, [], ◌∷◌, ◌++◌, length, Option, true≢false}
+use Rattle.std.proofs.Common.{◌≡◌, refl, sym, ap, ◌∙◌, ℕ, suc, ◌+◌, Bool, true, ◌&&◌, List, [], ◌∷◌, ◌++◌, length, Option}
 use Rattle.std.specs.List.{list_all}
 use Rattle.std.proofs.lemmas.List.Folds.{list_all-append}
-use Rattle.std.proofs.lemmas.Bool.{and_from}
+use Rattle.std.proofs.lemmas.Bool.{and_from, and_parts}
 use mathlib.Core.Former.{Count}
 use Rattle.hlfir_ops.specs.declared.kinds.ValueKind.{ValueKind}
 use Rattle.hlfir_ops.specs.declared.what.What.{What}
@@ -15,23 +15,13 @@ use Rattle.hlfir_ops.specs.RulesPlaces.{Around, Place, Site, around_in, from_num
 use Rattle.hlfir_ops.proofs.Order.{op_order-parts, order_of-append}
 use Rattle.kind_laws.proofs.Ends.{ops-region_of}
 
--- ---- truth values
-
-pub first_true : (b c : Bool) → (b && c) ≡ true → b ≡ true
-first_true true c h = refl
-first_true false c h = h
-
-pub second_true : (b c : Bool) → (b && c) ≡ true → c ≡ true
-second_true true c h = h
-second_true false c h = absurd (true≢false (sym h))
-
 module _ {A : Type 0} (test : A → Bool) where
   pub all-append : (xs ys : List A) → list_all test xs ≡ true → list_all test ys ≡ true → list_all test (xs ++ ys) ≡ true
   all-append xs ys h g = list_all-append test xs ys ∙ and_from (list_all test xs) (list_all test ys) h g
 
   pub all-weaker : (other : A → Bool) (xs : List A) → ((x : A) → test x ≡ true → other x ≡ true) → list_all test xs ≡ true → list_all other xs ≡ true
   all-weaker other [] f h = refl
-  all-weaker other (x ∷ xs) f h = and_from (other x) (list_all other xs) (f x (first_true (test x) (list_all test xs) h)) (all-weaker other xs f (second_true (test x) (list_all test xs) h))
+  all-weaker other (x ∷ xs) f h = and_from (other x) (list_all other xs) (f x ((and_parts (test x) (list_all test xs) h).0)) (all-weaker other xs f ((and_parts (test x) (list_all test xs) h).1))
 
 -- ---- a test of each site follows from one of each op in printed order; P says what is known of what is around
 
@@ -42,8 +32,8 @@ module _ (P : Around → Type 0) (inner : (a : Around) (w : What) (k : ℕ) → 
         let here : Op = Op' w line operands kind h regions in
         let site : Site = record { place = p; op = here } in
         and_from (test site) (list_all test (regions_sites p.around w 0 (own_numbers kind + p.number) p.defined regions))
-        (fits site around (first_true (T here) (list_all T (regions_order regions)) all))
-        (regions_pass p.around w 0 (own_numbers kind + p.number) p.defined regions (second_true (T here) (list_all T (regions_order regions)) all))
+        (fits site around ((and_parts (T here) (list_all T (regions_order regions)) all).0))
+        (regions_pass p.around w 0 (own_numbers kind + p.number) p.defined regions ((and_parts (T here) (list_all T (regions_order regions)) all).1))
 
     regions_pass : {m : Count} (a : Around) (w : What) (k n : ℕ) (d : List ℕ) (regions : Regions m) → list_all T (regions_order regions) ≡ true → list_all test (regions_sites a w k n d regions) ≡ true
     regions_pass a w k n d end_regions all = refl
@@ -51,8 +41,8 @@ module _ (P : Around → Type 0) (inner : (a : Around) (w : What) (k : ℕ) → 
         let here = list_all-append T (ops_order ops) (regions_order regions) in
         let split : (list_all T (ops_order ops) && list_all T (regions_order regions)) ≡ true = sym here ∙ all in
         all-append test (ops_sites (around_in a w k) [] (length (names_in w k) + n) (d ++ from_number n (names_in w k)) ops) (regions_sites a w (suc k) ((length (names_in w k) + ops_numbers ops) + n) d regions)
-        (ops_pass (around_in a w k) [] (length (names_in w k) + n) (d ++ from_number n (names_in w k)) ops (inner a w k) (first_true (list_all T (ops_order ops)) (list_all T (regions_order regions)) split))
-        (regions_pass a w (suc k) ((length (names_in w k) + ops_numbers ops) + n) d regions (second_true (list_all T (ops_order ops)) (list_all T (regions_order regions)) split))
+        (ops_pass (around_in a w k) [] (length (names_in w k) + n) (d ++ from_number n (names_in w k)) ops (inner a w k) ((and_parts (list_all T (ops_order ops)) (list_all T (regions_order regions)) split).0))
+        (regions_pass a w (suc k) ((length (names_in w k) + ops_numbers ops) + n) d regions ((and_parts (list_all T (ops_order ops)) (list_all T (regions_order regions)) split).1))
 
     ops_pass : {m : Count} (a : Around) (before : List Op) (n : ℕ) (d : List ℕ) (ops : Ops m) → P a → list_all T (ops_order ops) ≡ true → list_all test (ops_sites a before n d ops) ≡ true
     ops_pass a before n d end_ops around all = refl
@@ -60,8 +50,8 @@ module _ (P : Around → Type 0) (inner : (a : Around) (w : What) (k : ℕ) → 
         let place : Place = record { around = a; before = before; number = n; defined = d } in
         let split : (list_all T (op_order op) && list_all T (ops_order ops)) ≡ true = sym (list_all-append T (op_order op) (ops_order ops)) ∙ all in
         all-append test (op_sites place op) (ops_sites a (before ++ op ∷ []) (op_numbers op + n) (d ++ own_defined n (out-Op op).kind) ops)
-        (op_passes place op around (first_true (list_all T (op_order op)) (list_all T (ops_order ops)) split))
-        (ops_pass a (before ++ op ∷ []) (op_numbers op + n) (d ++ own_defined n (out-Op op).kind) ops around (second_true (list_all T (op_order op)) (list_all T (ops_order ops)) split))
+        (op_passes place op around ((and_parts (list_all T (op_order op)) (list_all T (ops_order ops)) split).0))
+        (ops_pass a (before ++ op ∷ []) (op_numbers op + n) (d ++ own_defined n (out-Op op).kind) ops around ((and_parts (list_all T (op_order op)) (list_all T (ops_order ops)) split).1))
 
   pub all_pass : (a : Around) (before : List Op) (n : ℕ) (d : List ℕ) (ops : List Op) → P a → list_all T (order_of ops) ≡ true → list_all test (sites_of a before n d ops) ≡ true
   all_pass a before n d [] around all = refl
@@ -69,8 +59,8 @@ module _ (P : Around → Type 0) (inner : (a : Around) (w : What) (k : ℕ) → 
       let place : Place = record { around = a; before = before; number = n; defined = d } in
       let split : (list_all T (op_order op) && list_all T (order_of ops)) ≡ true = sym (list_all-append T (op_order op) (order_of ops)) ∙ all in
       all-append test (op_sites place op) (sites_of a (before ++ op ∷ []) (op_numbers op + n) (d ++ own_defined n (out-Op op).kind) ops)
-      (op_passes place op around (first_true (list_all T (op_order op)) (list_all T (order_of ops)) split))
-      (all_pass a (before ++ op ∷ []) (op_numbers op + n) (d ++ own_defined n (out-Op op).kind) ops around (second_true (list_all T (op_order op)) (list_all T (order_of ops)) split))
+      (op_passes place op around ((and_parts (list_all T (op_order op)) (list_all T (order_of ops)) split).0))
+      (all_pass a (before ++ op ∷ []) (op_numbers op + n) (d ++ own_defined n (out-Op op).kind) ops around ((and_parts (list_all T (op_order op)) (list_all T (order_of ops)) split).1))
 
 -- ---- an op by its parts
 
