@@ -1,5 +1,7 @@
 -- Where no rule is broken in a statement, none is broken in its parts.
-use Rattle.std.proofs.Common.{◌≡◌, refl, ℕ, Bool, true, false, List, [], Option, if◌then◌else◌}
+use Rattle.std.proofs.Common.{◌≡◌, refl, ℕ, Bool, true, false, List, [], Option, if◌then◌else◌, ◌∷◌, All}
+use Rattle.std.specs.List.{AllByRecursion, flat_map}
+use Rattle.std.proofs.lemmas.List.Elements.{All-head, All-tail}
 use mathlib.Core.Former.{Count}
 use Rattle.ws_base.specs.declared.refusal.Refusal.{Refusal}
 use Rattle.ws_base.specs.declared.refusal.RefusalKind.TheVariants as kind
@@ -89,3 +91,8 @@ deallocate_faultless t w line xs f = none_after _ _ (looked_into (is_masked w) l
 
 pub read_faultless : (t : List Row) (w : Within) (line : ℕ) (es : List Expr) → body_faults t w line (Read es) ≡ [] → items_faults t line es ≡ []
 read_faultless t w line es f = none_after _ _ (looked_into (is_masked w) line kind.Unsupported _ f)
+
+-- each item of a list, where all of them are so
+pub each_faultless : {A : Type 0} (P : A → Type 0) (rules : A → List Refusal) (xs : List A) → All P xs → flat_map rules xs ≡ [] → AllByRecursion (λ x. P x × (rules x ≡ [])) xs
+each_faultless P rules [] h f = tt
+each_faultless P rules (x ∷ xs) h f = ((All-head P x xs h, none_first _ _ f), each_faultless P rules xs (All-tail P x xs h) (none_after _ _ f))
