@@ -29,12 +29,12 @@ use Rattle.lower_assign.specs.Statements.{yielded, all_yielded, allocation, deal
 use Rattle.lower_constructs.specs.Modules.{triple, triples, forall_mask, elsewhere, statement, statements, elsewheres, statement_list}
 use Rattle.kind_laws.proofs.ScopesFound.{loop_variables_are_found}
 use Rattle.kind_laws.proofs.Grammar.{where_parts, forall_parts, loop_parts, shared_parts, allocated_parts, read_parts, no_else}
-use Rattle.kind_laws.proofs.Faultless.{where_faultless, else_faultless, forall_faultless, loop_faultless, shared_faultless, allocate_faultless, deallocate_faultless, read_faultless}
+use Rattle.kind_laws.proofs.Faultless.{where_faultless, else_faultless, forall_faultless, loop_faultless, shared_faultless, allocate_faultless, deallocate_faultless, read_faultless, each_faultless}
 use Rattle.kind_laws.proofs.NoFaults.{none_first, none_after}
 use Rattle.form_laws.proofs.Stages.{Stage, stage-region, stage-active, stage-barred, stage-inner}
 use Rattle.form_laws.proofs.Regions.{Walks, walks-done, walks-then, walks-scoped, walks-yielded, walks-all_yielded, walks-statement, walks-in_turn}
 use Rattle.form_laws.proofs.Sides.{walks-side}
-use Rattle.form_laws.proofs.Constructs.{parts_of, names_of, items_of, walks-triple, walks-triples, walks-forall_mask, walks-masked}
+use Rattle.form_laws.proofs.Constructs.{names_of, walks-triple, walks-triples, walks-forall_mask, walks-masked}
 use Rattle.form_laws.proofs.Statements.{walks-assignment, walks-deallocation, walks-allocation, walks-reading}
 
 module _ (vs : List Value) where
@@ -89,13 +89,13 @@ module _ (vs : List Value) where
         ))
     walks-body k room t w line (Allocate ps) s h g f =
         walks-in_turn vs s (λ p. IsPart p × (allocation_faults t line p ≡ [])) (λ j. allocation line (nat_lt 0 j)) 0 ps (λ j p is. walks-allocation vs t s h line (nat_lt 0 j) p is.0 is.1)
-        (parts_of t line ps (allocated_parts k room line ps g) (allocate_faultless t w line ps f))
+        (each_faultless IsPart (allocation_faults t line) ps (allocated_parts k room line ps g) (allocate_faultless t w line ps f))
     walks-body k room t w line (Deallocate xs) s h g f =
         walks-in_turn vs s (λ x. deallocation_faults t line x ≡ []) (λ j. deallocation line (nat_lt 0 j)) 0 xs (λ j x is. walks-deallocation vs t s h line x is (nat_lt 0 j))
         (names_of t line xs (deallocate_faultless t w line xs f))
     walks-body k room t w line (Read es) s h g f =
         walks-in_turn vs s (λ e. IsDesignator e × (item_faults t line e ≡ [])) (λ j. reading line (nat_lt 0 j)) 0 es (λ j e is. walks-reading vs t s h line (nat_lt 0 j) e is.0 is.1)
-        (items_of t line es (read_parts k room line es g) (read_faultless t w line es f))
+        (each_faultless IsDesignator (item_faults t line) es (read_parts k room line es g) (read_faultless t w line es f))
     walks-body k room t w line (Shared' c block) s h g f =
         let parts = shared_parts k room line c block g in
         walks-statement vs what.Workshare line [] (statements block ∷ []) s refl (λ n. refl) (
