@@ -71,7 +71,3 @@ module _ (vs : List Value) where
     pub giving-fit : part_fits vs b w s.line os (Some k) [] ≡ true → AreFit vs b (giving w os k s n).ops
     unfolding giving
     giving-fit g = fit-op vs b w s.line os (Some k) [] g tt
-
-    pub giving-made : part_fits vs b w s.line os (Some k) [] ≡ true → IsSolid k → Made b (giving w os k s n)
-    unfolding giving
-    giving-made g solid = record { fit = giving-fit g; stands = record { found = giving-found; solid = solid } }

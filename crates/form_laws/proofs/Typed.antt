@@ -40,12 +40,6 @@ operand_elem-is bin.Neqv = refl
 
 -- ---- ranks of several operands
 
-pub low_left : (r q : ℕ) → max r q ≡ 0 → r ≡ 0
-low_left r q h = omega (arith, h)
-
-pub low_right : (r q : ℕ) → max r q ≡ 0 → q ≡ 0
-low_right r q h = omega (arith, h)
-
 is_zero : (r : ℕ) → r ≡ 0 → (r == 0) ≡ true
 is_zero r h = ap (λ k. k == 0) h
 
