@@ -46,9 +46,6 @@ IsReached vs v = is_allocatable_declare (value_at vs v) ≡ false
 pub usable-reached : {vs : List Value} {x : Operand} → IsUsable vs x → IsReached vs x.value
 usable-reached h = ap is_allocatable_declare h.found.found ∙ h.found.reached
 
-pub none-allocatable : (vs : List Value) → no_allocatable vs [] ≡ true
-none-allocatable vs = refl
-
 pub more-reached : (vs : List Value) (v : ValueId) (os : List ValueId) → IsReached vs v → no_allocatable vs os ≡ true → no_allocatable vs (v ∷ os) ≡ true
 more-reached vs v os h g = and_from _ _ (ap not h) g
 
