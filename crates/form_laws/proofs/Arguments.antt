@@ -5,7 +5,7 @@ use Rattle.ws_types.specs.declared.types.Typed.{Typed}
 use Rattle.ws_types.specs.declared.types.Arguments.{Arguments}
 use Rattle.ws_types.specs.Operations.{differ, with_argument, no_arguments}
 use Rattle.kind_laws.proofs.Arguments.{argued}
-use Rattle.small_laws.proofs.NoFaults.{left_false, right_false}
+use Rattle.kind_laws.proofs.NoFaults.{left_false, right_false, not_false}
 
 -- all are LOGICAL, or none is
 abbrev pub Each : Bool → List Typed → Type 0
@@ -16,17 +16,13 @@ abbrev pub AreSingle : List Typed → Type 0
 AreSingle [] = Unit {0}
 AreSingle (ty ∷ tys) = (ty.rank ≡ 0) × AreSingle tys
 
-not_not : (b : Bool) → not b ≡ false → b ≡ true
-not_not true h = refl
-not_not false h = absurd (true≢false h)
-
 pub no_truths : (a : Arguments) (tys : List Typed) → (argued a tys).truths ≡ false → (a.truths ≡ false) × Each false tys
 no_truths a [] h = (h, tt)
 no_truths a (ty ∷ tys) h = let more = no_truths (with_argument a (Some ty)) tys h in (left_false a.truths ty.truth more.0, (right_false a.truths ty.truth more.0, more.1))
 
 pub no_numbers : (a : Arguments) (tys : List Typed) → (argued a tys).numbers ≡ false → (a.numbers ≡ false) × Each true tys
 no_numbers a [] h = (h, tt)
-no_numbers a (ty ∷ tys) h = let more = no_numbers (with_argument a (Some ty)) tys h in (left_false a.numbers (not ty.truth) more.0, (not_not ty.truth (right_false a.numbers (not ty.truth) more.0), more.1))
+no_numbers a (ty ∷ tys) h = let more = no_numbers (with_argument a (Some ty)) tys h in (left_false a.numbers (not ty.truth) more.0, (not_false ty.truth (right_false a.numbers (not ty.truth) more.0), more.1))
 
 pub no_ranks : (a : Arguments) (tys : List Typed) → (argued a tys).rank ≡ 0 → (a.rank ≡ 0) × AreSingle tys
 no_ranks a [] h = (h, tt)

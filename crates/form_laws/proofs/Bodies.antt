@@ -3,6 +3,7 @@ use Rattle.std.proofs.Common.{◌≡◌, refl, sym, ap, ◌∙◌, subst, ℕ, s
 use Rattle.std.proofs.lemmas.List.{length-append}
 use Rattle.std.proofs.lemmas.List.Folds.{list_all-append}
 use Rattle.std.specs.List.{list_all}
+use Rattle.std.proofs.lemmas.Bool.{and_from}
 use Rattle.hlfir_ops.specs.declared.kinds.Elem.{Elem}
 use Rattle.hlfir_ops.specs.declared.kinds.ValueKind.TheVariants.{Scalar, Array}
 use Rattle.hlfir_ops.specs.declared.what.What.{What}
@@ -19,10 +20,11 @@ use Rattle.lower_assign.specs.Scopes.{Scope, inside}
 use Rattle.lower_assign.specs.Lowerings.{Lowered, ◌>>=◌, giving, acting, giving_by}
 use Rattle.lower_assign.specs.Operations.{values_of, arranged, on_scalars, at_positions, element, at_each}
 use Rattle.kind_laws.specs.Found.{Holds}
-use Rattle.form_laws.proofs.Passing.{both, AreFit, fit-append, fit-op, fit-region}
+use Rattle.form_laws.proofs.Passing.{AreFit, fit-append, fit-op, fit-region}
 use Rattle.kind_laws.proofs.ScopesFound.{regions_are_held}
 use Rattle.kind_laws.proofs.Finding.{holds_first, holds_after, own_value}
-use Rattle.form_laws.proofs.Operands.{same_elem-same, AreScalars, Made}
+use Rattle.kind_laws.proofs.TypesTold.{same_elem-same}
+use Rattle.form_laws.proofs.Operands.{AreScalars, Made}
 use Rattle.form_laws.proofs.Elementals.{elems_of, TakesScalars, Conform, AllPositioned, positions-positioned}
 
 -- the last one of a list
@@ -84,7 +86,7 @@ module _ (vs : List Value) (w : What) (e : Elem) (es : List Elem) (t : TakesScal
           let worker_fields : Op-F Op Region = record { what = w; line = c.line; operands = arranged w (values_of front.made); kind = Some (Scalar e); regions = [] } in
           ap (list_all (applies_rank vs rank)) element-ops
           ∙ (list_all-append (applies_rank vs rank) front.ops (worker ∷ yielder ∷ [])
-          ∙ both _ _ positioned.applies (both _ _ (no_rank worker_fields t.no_apply worker (out-roll-Op worker_fields)) (both _ _ (no_rank yielder_fields refl yielder (out-roll-Op yielder_fields)) refl)))
+          ∙ and_from _ _ positioned.applies (and_from _ _ (no_rank worker_fields t.no_apply worker (out-roll-Op worker_fields)) (and_from _ _ (no_rank yielder_fields refl yielder (out-roll-Op yielder_fields)) refl)))
 
       yielded : first_kind vs (parts (element w e xs c k).ops) ≡ Some (Scalar e)
       yielded =
@@ -95,7 +97,7 @@ module _ (vs : List Value) (w : What) (e : Elem) (es : List Elem) (t : TakesScal
       elemental : is_elemental_of vs (element w e xs c k).ops (first_kind vs (parts (element w e xs c k).ops)) (Some (Array e rank)) ≡ true
       elemental =
           ap (λ o. is_elemental_of vs (element w e xs c k).ops o (Some (Array e rank))) yielded
-          ∙ both (same_elem e e && nat_lt 0 rank) (list_all (applies_rank vs rank) (element w e xs c k).ops) (both (same_elem e e) (nat_lt 0 rank) (same_elem-same e) (grind (arith, some))) ranked
+          ∙ and_from (same_elem e e && nat_lt 0 rank) (list_all (applies_rank vs rank) (element w e xs c k).ops) (and_from (same_elem e e) (nat_lt 0 rank) (same_elem-same e) (grind (arith, some))) ranked
 
   -- ---- the elemental
 

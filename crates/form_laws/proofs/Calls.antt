@@ -2,7 +2,7 @@
 use Rattle.std.proofs.Common.{◌≡◌, refl, sym, ap, ◌∙◌, ℕ, ◌==◌, Bool, true, false, not, ◌&&◌, ◌||◌, nat_eq, List, [], ◌∷◌, length, Option, Some, None, arith, if◌then◌else◌}
 use Rattle.std.specs.Prelude.{max}
 use Rattle.std.specs.List.{list_all}
-use Rattle.std.proofs.lemmas.Bool.{true≢false}
+use Rattle.std.proofs.lemmas.Bool.{true≢false, and_from}
 use Rattle.ws_base.specs.declared.op.CallWord.{CallWord}
 use Rattle.ws_base.specs.declared.op.CallWord.TheVariants as word
 use Rattle.ws_tree.specs.declared.expr.Expr.{Expr}
@@ -25,12 +25,13 @@ use Rattle.lower_assign.specs.Scopes.{Scope}
 use Rattle.lower_assign.specs.Lowerings.{giving}
 use Rattle.lower_assign.specs.Operations.{values_of, operation, total, call_on, vector, nesting_of}
 use Rattle.kind_laws.specs.Found.{Holds}
-use Rattle.small_laws.proofs.NoFaults.{none_first, none_after, not_broken, left_false, right_false}
-use Rattle.form_laws.proofs.Passing.{both, fit-op}
-use Rattle.form_laws.proofs.Operands.{same_elem-same, scalar_kind, array_kind}
-use Rattle.form_laws.proofs.Typed.{not_other, IsOf, AreOf, unary-made, binary-made, select-made}
+use Rattle.form_laws.proofs.Passing.{fit-op}
+use Rattle.form_laws.proofs.Operands.{scalar_kind, array_kind}
+use Rattle.form_laws.proofs.Typed.{IsOf, AreOf, unary-made, binary-made, select-made}
 use Rattle.form_laws.proofs.Walking.{Good, good-made}
 use Rattle.kind_laws.proofs.Arguments.{argued}
+use Rattle.kind_laws.proofs.NoFaults.{none_first, none_after, not_broken, left_false, right_false}
+use Rattle.kind_laws.proofs.TypesTold.{not_other, same_elem-same}
 use Rattle.form_laws.proofs.Arguments.{Each, AreSingle, same_choice}
 
 module _ (vs : List Value) where
@@ -128,8 +129,8 @@ module _ (vs : List Value) where
         let k = x.kind in record {
           fit = fit-op vs false (what.Reduce r) s.line (x.value ∷ []) (Some (kind.Scalar (total_elem r))) []
               (ap (λ o. is_reduced r o && is_scalar (total_elem r) (Some (kind.Scalar (total_elem r)))) of.stands.found
-              ∙ both (is_array (Some k) && has_elem (reduced_elem r) (Some k)) (same_elem (total_elem r) (total_elem r))
-              (both (is_array (Some k)) (has_elem (reduced_elem r) (Some k)) (array_kind k (ap (λ q. q == 0) of.of_rank ∙ some)) (ap (same_elem (reduced_elem r)) (of.of_elem ∙ (ap elem truth ∙ is)) ∙ same_elem-same (reduced_elem r))) (same_elem-same (total_elem r))) tt;
+              ∙ and_from (is_array (Some k) && has_elem (reduced_elem r) (Some k)) (same_elem (total_elem r) (total_elem r))
+              (and_from (is_array (Some k)) (has_elem (reduced_elem r) (Some k)) (array_kind k (ap (λ q. q == 0) of.of_rank ∙ some)) (ap (same_elem (reduced_elem r)) (of.of_elem ∙ (ap elem truth ∙ is)) ∙ same_elem-same (reduced_elem r))) (same_elem-same (total_elem r))) tt;
           solid = tt;
         }
 
@@ -184,7 +185,7 @@ module _ (vs : List Value) where
   items_like b k [] (x ∷ xs) is of each single = absurd of
   items_like b k (ty ∷ tys) [] is of each single = absurd of
   items_like b k (ty ∷ tys) (x ∷ xs) is of each single =
-      both (same_scalars k (kind_at vs x.value)) (list_all (λ w. same_scalars k (kind_at vs w)) (values_of xs))
+      and_from (same_scalars k (kind_at vs x.value)) (list_all (λ w. same_scalars k (kind_at vs w)) (values_of xs))
       (ap (λ o. same_scalars o (kind_at vs x.value)) is ∙ (ap (same_scalars (Some (kind.Scalar (elem b)))) (single_kind b ty x of.0 each.0 single.0) ∙ same_elem-same (elem b)))
       (items_like b k tys xs is of.1 each.1 single.1)
 
@@ -195,8 +196,8 @@ module _ (vs : List Value) where
       let same : elem_of x.kind ≡ elem b = of.0.of_elem ∙ ap elem each.0 in
       record {
         fit = fit-op vs false what.Vector s.line (x.value ∷ values_of xs) (Some (kind.Array (elem_of x.kind) 1)) []
-            (both (are_items vs (x.value ∷ values_of xs)) (is_array_of (kind_at vs x.value) 1 (Some (kind.Array (elem_of x.kind) 1)))
+            (and_from (are_items vs (x.value ∷ values_of xs)) (is_array_of (kind_at vs x.value) 1 (Some (kind.Array (elem_of x.kind) 1)))
             (items_like b (kind_at vs x.value) (ty ∷ tys) (x ∷ xs) found of each single)
-            (ap (λ k. is_array_of k 1 (Some (kind.Array (elem_of x.kind) 1))) of.0.stands.found ∙ both (same_elem (elem_of x.kind) (elem_of x.kind)) true (same_elem-same (elem_of x.kind)) refl)) tt;
+            (ap (λ k. is_array_of k 1 (Some (kind.Array (elem_of x.kind) 1))) of.0.stands.found ∙ and_from (same_elem (elem_of x.kind) (elem_of x.kind)) true (same_elem-same (elem_of x.kind)) refl)) tt;
         solid = refl;
       }

@@ -2,19 +2,19 @@
 use Rattle.std.proofs.Common.{◌≡◌, refl, ap, ◌∙◌, ℕ, ◌+◌, true, false, ◌&&◌, nat_lt, List, [], ◌∷◌, ◌++◌, length, All, Option, Some, None, arith}
 use Rattle.std.specs.Prelude.{⊤}
 use Rattle.std.proofs.lemmas.List.Elements.{All-head, All-tail}
+use Rattle.std.specs.List.{AllByRecursion}
 use mathlib.Core.Former.{Count}
 use Rattle.ws_base.specs.declared.name.Name.{Name}
 use Rattle.ws_tree.specs.declared.expr.Expr.{Expr}
 use Rattle.ws_tree.specs.declared.stmt.Index.{Index}
-use Rattle.ws_tree.specs.declared.stmt.Part.{Part}
 use Rattle.ws_tree.specs.declared.stmt.Else.{Else'}
 use Rattle.ws_tree.specs.Trees.{Elses, end_elses, more_elses}
-use Rattle.ws_tree.specs.Grammatical.{IsSide, IsDesignator, IsOptional, IsIndex, IsPart}
+use Rattle.ws_tree.specs.Grammatical.{IsSide, IsOptional, IsIndex}
 use Rattle.ws_types.specs.declared.types.Row.{Row}
 use Rattle.ws_types.specs.Expressions.{faults}
 use Rattle.ws_types.specs.Lists.{given_faults}
 use Rattle.ws_types.specs.Tables.{inner}
-use Rattle.ws_sema.specs.Statements.{header_faults, forall_mask_faults, items_faults, item_faults, allocations_faults, allocation_faults, deallocations_faults, deallocation_faults}
+use Rattle.ws_sema.specs.Statements.{header_faults, forall_mask_faults, deallocations_faults, deallocation_faults}
 use Rattle.hlfir_ops.specs.declared.what.What.TheVariants as what
 use Rattle.hlfir_ops.specs.declared.op.Region.{out-roll-Region}
 use Rattle.hlfir_ops.specs.Numbers.{numbers_of}
@@ -25,24 +25,16 @@ use Rattle.lower_assign.specs.Values.{value}
 use Rattle.lower_assign.specs.Lists.{stride}
 use Rattle.lower_assign.specs.Statements.{yielded}
 use Rattle.lower_constructs.specs.Modules.{triple, triples, forall_mask, third, elsewhere, elsewheres}
-use Rattle.small_laws.proofs.NoFaults.{none_first, none_after}
 use Rattle.form_laws.proofs.Stages.{Stage, stage-region}
-use Rattle.form_laws.proofs.Regions.{AllOf, Walks, walks-done, walks-then, walks-scoped, walks-yielded, RegionWalks, walks-statement}
+use Rattle.form_laws.proofs.Regions.{Walks, walks-done, walks-then, walks-scoped, walks-yielded, RegionWalks, walks-statement}
 use Rattle.form_laws.proofs.Sides.{walks-side, walks-stride}
+use Rattle.kind_laws.proofs.NoFaults.{none_first, none_after}
 
 -- ---- lists of items
 
-pub parts_of : (t : List Row) (line : ℕ) (ps : List Part) → All IsPart ps → allocations_faults t line ps ≡ [] → AllOf (λ p. IsPart p × (allocation_faults t line p ≡ [])) ps
-parts_of t line [] h f = tt
-parts_of t line (p ∷ ps) h f = ((All-head IsPart p ps h, none_first _ _ f), parts_of t line ps (All-tail IsPart p ps h) (none_after _ _ f))
-
-pub names_of : (t : List Row) (line : ℕ) (xs : List Name) → deallocations_faults t line xs ≡ [] → AllOf (λ x. deallocation_faults t line x ≡ []) xs
+pub names_of : (t : List Row) (line : ℕ) (xs : List Name) → deallocations_faults t line xs ≡ [] → AllByRecursion (λ x. deallocation_faults t line x ≡ []) xs
 names_of t line [] f = tt
 names_of t line (x ∷ xs) f = (none_first _ _ f, names_of t line xs (none_after _ _ f))
-
-pub items_of : (t : List Row) (line : ℕ) (es : List Expr) → All IsDesignator es → items_faults t line es ≡ [] → AllOf (λ e. IsDesignator e × (item_faults t line e ≡ [])) es
-items_of t line [] h f = tt
-items_of t line (e ∷ es) h f = ((All-head IsDesignator e es h, none_first _ _ f), items_of t line es (All-tail IsDesignator e es h) (none_after _ _ f))
 
 -- ---- an ELSEWHERE gives an op
 

@@ -1,7 +1,7 @@
--- The declares of a source: they have their forms, and are found.
-use Rattle.std.proofs.Common.{◌≡◌, refl, sym, ap, ◌∙◌, ℕ, suc, ◌+◌, Bool, true, false, nat_lt, List, [], ◌∷◌, ◌++◌, map, All, Some, arith}
+-- The declares of a source have their forms.
+use Rattle.std.proofs.Common.{◌≡◌, refl, ℕ, suc, Bool, true, false, nat_lt, List, [], ◌∷◌, ◌++◌, map, Some}
 use Rattle.std.proofs.lemmas.Bool.{true≢false, false≢true}
-use Rattle.std.proofs.lemmas.List.Elements.{All-nil, All-cons}
+use Rattle.std.specs.List.{AllByRecursion}
 use Rattle.ws_space.specs.declared.shape.Dim.{Dim}
 use Rattle.ws_space.specs.Shapes.{shape_of}
 use Rattle.ws_tree.specs.declared.stmt.Bound.{Bound}
@@ -10,20 +10,17 @@ use Rattle.ws_types.specs.declared.constant.Constant.{Constant}
 use Rattle.ws_sema.specs.Declarations.{is_some, is_empty, is_left_out, shape_faults, decls_faults, with_constant}
 use Rattle.hlfir_ops.specs.declared.kinds.Elem.{Elem}
 use Rattle.hlfir_ops.specs.declared.what.What.TheVariants as what
-use Rattle.hlfir_ops.specs.Numbers.{numbers_of}
-use Rattle.hlfir_ops.specs.RulesValues.{Value, value_at}
+use Rattle.hlfir_ops.specs.RulesValues.{Value}
 use Rattle.hlfir_ops.specs.RulesForms.{is_variable}
-use Rattle.hlfir_ops.proofs.Numbered.{op_numbers-op_of}
 use Rattle.lower_assign.specs.declared.names.Variable.{Variable}
 use Rattle.lower_assign.specs.Scopes.{Scope}
 use Rattle.lower_assign.specs.Lowerings.{done, ◌>>=◌, in_turn, giving}
-use Rattle.lower_assign.specs.Known.{elem, bound_dim, declared_shape, variable_kind, kind_of, variable, declares_variable, if_variable, variable_decls, numbered}
+use Rattle.lower_assign.specs.Known.{elem, bound_dim, declared_shape, variable_kind, declares_variable, if_variable, variable_decls, numbered}
 use Rattle.lower_constructs.specs.Modules.{declaration}
-use Rattle.kind_laws.specs.Found.{Holds, DeclareIsFound}
-use Rattle.small_laws.proofs.NoFaults.{none_first, none_after, not_broken}
 use Rattle.form_laws.proofs.Passing.{fit-op}
-use Rattle.kind_laws.proofs.Finding.{holds_first, holds_after, own_value}
-use Rattle.form_laws.proofs.Regions.{AllOf, Walks, walks-then, walks-done, walks-in_turn}
+use Rattle.kind_laws.proofs.DeclaresFound.{GivesDeclares}
+use Rattle.kind_laws.proofs.NoFaults.{none_first, none_after, not_broken}
+use Rattle.form_laws.proofs.Regions.{Walks, walks-then, walks-done, walks-in_turn}
 
 -- ---- kinds of variables
 
@@ -40,15 +37,15 @@ shaped-one : (cs : List Constant) (d : Decl) → shape_faults cs d ≡ [] → Is
 unfolding shape_faults
 shaped-one cs d f = has_shape d.allocatable (is_some d.constant) (is_empty d.shape) (not_broken _ _ _ (none_first _ _ f))
 
-shaped : (before : List Decl) (cs : List Constant) (ds : List Decl) → decls_faults before cs ds ≡ [] → AllOf IsShaped ds
+shaped : (before : List Decl) (cs : List Constant) (ds : List Decl) → decls_faults before cs ds ≡ [] → AllByRecursion IsShaped ds
 shaped before cs [] f = tt
 shaped before cs (d ∷ ds) f = (shaped-one cs d (none_after _ _ (none_first _ _ f)), shaped (before ++ d ∷ []) (with_constant cs d) ds (none_after _ _ f))
 
-one_variable : (b : Bool) (d : Decl) (ds : List Decl) → IsShaped d → AllOf IsShaped ds → AllOf IsShaped (if_variable b d ++ ds)
+one_variable : (b : Bool) (d : Decl) (ds : List Decl) → IsShaped d → AllByRecursion IsShaped ds → AllByRecursion IsShaped (if_variable b d ++ ds)
 one_variable true d ds h g = (h, g)
 one_variable false d ds h g = g
 
-variables_shaped : (ds : List Decl) → AllOf IsShaped ds → AllOf IsShaped (variable_decls ds)
+variables_shaped : (ds : List Decl) → AllByRecursion IsShaped ds → AllByRecursion IsShaped (variable_decls ds)
 variables_shaped [] h = tt
 variables_shaped (d ∷ ds) h = one_variable (declares_variable d.constant) d (variable_decls ds) h.0 (variables_shaped ds h.1)
 
@@ -66,39 +63,24 @@ variable_is false e cs (b ∷ bs) h = some_rank (bound_dim cs b) (map (bound_dim
 abbrev pub IsVariable : Variable → Type 0
 IsVariable v = is_variable (Some v.declare.kind) ≡ true
 
-numbered_are : (n : ℕ) (cs : List Constant) (ds : List Decl) → AllOf IsShaped ds → AllOf IsVariable (numbered n cs ds)
+numbered_are : (n : ℕ) (cs : List Constant) (ds : List Decl) → AllByRecursion IsShaped ds → AllByRecursion IsVariable (numbered n cs ds)
 numbered_are n cs [] h = tt
 numbered_are n cs (d ∷ ds) h = (variable_is d.allocatable (elem d.truth) cs d.shape h.0, numbered_are (suc n) cs ds h.1)
 
-pub variables-are : (cs : List Constant) (ds : List Decl) → decls_faults [] [] ds ≡ [] → AllOf IsVariable (numbered 0 cs (variable_decls ds))
+pub variables-are : (cs : List Constant) (ds : List Decl) → decls_faults [] [] ds ≡ [] → AllByRecursion IsVariable (numbered 0 cs (variable_decls ds))
 variables-are cs ds f = numbered_are 0 cs (variable_decls ds) (variables_shaped ds (shaped [] [] ds f))
 
 module _ (vs : List Value) where
-  -- ---- their forms
-
   walks-declaration : (s : Scope) (k : ℕ) (v : Variable) → IsVariable v → Walks vs s (declaration k v)
   unfolding declaration giving
   walks-declaration s k v h = walks-then vs s (giving (what.Declare v.name) [] v.declare.kind) (λ _. done tt)
       (record { fits = λ n held. fit-op vs false (what.Declare v.name) s.line [] (Some v.declare.kind) [] h tt }) (λ _. walks-done vs s tt)
 
-  pub walks-declarations : (s : Scope) (k : ℕ) (variables : List Variable) → AllOf IsVariable variables → Walks vs s (in_turn declaration k variables)
+  pub walks-declarations : (s : Scope) (k : ℕ) (variables : List Variable) → AllByRecursion IsVariable variables → Walks vs s (in_turn declaration k variables)
   walks-declarations s k variables h = walks-in_turn vs s IsVariable declaration k variables (λ j v is. walks-declaration s j v is) h
 
-  -- ---- where they stand
+-- ---- what they are
 
-  -- they are numbered as they stand
-  declares_from : (s : Scope) (k n m : ℕ) (cs : List Constant) (ds : List Decl) → m ≡ n → Holds vs m (in_turn declaration k (numbered n cs ds) s m).ops → All (DeclareIsFound vs) (numbered n cs ds)
-  unfolding in_turn declaration giving ◌>>=◌ done
-  declares_from s k n m cs [] is held = All-nil (DeclareIsFound vs)
-  declares_from s k n m cs (d ∷ ds) is held =
-      let v = variable n cs d in
-      let ops = (declaration k v s m).ops in
-      let next = m + numbers_of ops in
-      let rest = (in_turn declaration (suc k) (numbered (suc n) cs ds) s next).ops in
-      let one : numbers_of ops ≡ 1 = omega (arith, op_numbers-op_of (what.Declare d.name) s.line [] (Some (kind_of cs d)) []) in
-      All-cons (DeclareIsFound vs) v (numbered (suc n) cs ds)
-      (ap (λ j. value_at vs (record { number = j })) (sym is) ∙ own_value vs m (what.Declare d.name) s.line [] (kind_of cs d) [] [] (holds_first vs m ops rest held))
-      (declares_from s (suc k) (suc n) next cs ds (omega (arith, is, one)) (holds_after vs m ops rest held))
-
-  pub declares-found : (s : Scope) (cs : List Constant) (ds : List Decl) → Holds vs 0 (in_turn declaration 0 (numbered 0 cs ds) s 0).ops → All (DeclareIsFound vs) (numbered 0 cs ds)
-  declares-found s cs ds held = declares_from s 0 0 0 cs ds refl held
+pub gives_declares : GivesDeclares declaration
+unfolding declaration giving ◌>>=◌ done
+gives_declares k v s n = refl

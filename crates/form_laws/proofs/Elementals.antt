@@ -1,6 +1,6 @@
 -- An operation on arrays: the elemental, and each op in its body.
 use Rattle.std.proofs.Common.{◌≡◌, refl, sym, ap, ◌∙◌, subst, ℕ, ◌+◌, ◌==◌, ◌⊎◌, inl, inr, Bool, true, false, not, ◌&&◌, ◌||◌, List, [], ◌∷◌, ◌++◌, map, Some, arith, if◌then◌else◌}
-use Rattle.std.proofs.lemmas.Bool.{true≢false}
+use Rattle.std.proofs.lemmas.Bool.{true≢false, and_from}
 use Rattle.std.proofs.lemmas.List.{append-nil}
 use Rattle.std.proofs.lemmas.List.Folds.{list_all-append}
 use Rattle.std.specs.List.{list_all}
@@ -20,9 +20,10 @@ use Rattle.lower_assign.specs.Scopes.{Scope}
 use Rattle.lower_assign.specs.Lowerings.{Lowering, Lowered, done, ◌>>=◌, giving}
 use Rattle.lower_assign.specs.Operations.{values_of, arranged, on_scalars, at_position, at_positions}
 use Rattle.kind_laws.specs.Found.{Holds}
-use Rattle.form_laws.proofs.Passing.{both, AreFit, fit-none, fit-append, fit-op, part_fits}
+use Rattle.form_laws.proofs.Passing.{AreFit, fit-none, fit-append, fit-op, part_fits}
 use Rattle.kind_laws.proofs.Finding.{holds_first, holds_after, own_value}
-use Rattle.form_laws.proofs.Operands.{same_elem-same, scalar_kind, array_kind, IsFound, Stands, AreScalars}
+use Rattle.kind_laws.proofs.TypesTold.{same_elem-same}
+use Rattle.form_laws.proofs.Operands.{scalar_kind, array_kind, IsFound, Stands, AreScalars}
 
 abbrev pub elems_of : List Operand → List Elem
 elems_of = map (λ x. elem_of x.kind)
@@ -70,7 +71,7 @@ module _ (vs : List Value) where
 
   apply_fits : (s : Scope) (x : Operand) → IsFound vs x → (rank_of x.kind == 0) ≡ false → part_fits vs true what.Apply s.line (x.value ∷ []) (Some (Scalar (elem_of x.kind))) [] ≡ true
   apply_fits s x found is =
-      ap (λ k. is_array k && is_scalar_of k (Some (Scalar (elem_of x.kind)))) found ∙ both (is_array (Some x.kind)) (is_scalar_of (Some x.kind) (Some (Scalar (elem_of x.kind)))) (array_kind x.kind is) (same_elem-same (elem_of x.kind))
+      ap (λ k. is_array k && is_scalar_of k (Some (Scalar (elem_of x.kind)))) found ∙ and_from (is_array (Some x.kind)) (is_scalar_of (Some x.kind) (Some (Scalar (elem_of x.kind)))) (array_kind x.kind is) (same_elem-same (elem_of x.kind))
 
   position-positioned : (direct : Bool) (rank : ℕ) (x : Operand) (s : Scope) (n : ℕ) → Stands vs x → HasRank rank x → (rank_of x.kind == 0) ≡ direct → Holds vs n (position direct x s n).ops → Positioned rank x (position direct x s n)
   unfolding done giving
@@ -94,7 +95,7 @@ module _ (vs : List Value) where
   joined_positions : (rank : ℕ) (x : Operand) (xs : List Operand) (l : Lowered Operand) (ls : Lowered (List Operand)) → Positioned rank x l → AllPositioned rank xs ls → AllPositioned rank (x ∷ xs) (record { ops = l.ops ++ (ls.ops ++ []); made = l.made ∷ ls.made })
   joined_positions rank x xs l ls h hs = record {
     fit = subst (λ os. AreFit vs true (l.ops ++ os)) (sym (append-nil ls.ops)) (fit-append vs true l.ops ls.ops h.fit hs.fit);
-    applies = ap (λ os. list_all (applies_rank vs rank) (l.ops ++ os)) (append-nil ls.ops) ∙ (list_all-append (applies_rank vs rank) l.ops ls.ops ∙ both _ _ h.applies hs.applies);
+    applies = ap (λ os. list_all (applies_rank vs rank) (l.ops ++ os)) (append-nil ls.ops) ∙ (list_all-append (applies_rank vs rank) l.ops ls.ops ∙ and_from _ _ h.applies hs.applies);
     found = (h.found, hs.found);
   }
 

@@ -27,7 +27,7 @@ use Rattle.lower_assign.specs.Operations.{nesting_of, joined}
 use Rattle.lower_assign.specs.References.{or_nothing}
 use Rattle.lower_assign.specs.Values.{constant_or, folded, call_by}
 use Rattle.kind_laws.specs.Found.{Holds}
-use Rattle.small_laws.proofs.NoFaults.{impossible, left_false}
+use Rattle.kind_laws.proofs.NoFaults.{impossible, left_false}
 use Rattle.form_laws.proofs.Constants.{HasDefault, ConstantsFit, constancy-fits}
 use Rattle.form_laws.proofs.Typed.{IsOf, binary-made}
 use Rattle.form_laws.proofs.Walking.{Good, done-good, Leaves, done-leaves}

@@ -25,9 +25,10 @@ use Rattle.ws_sema.specs.Statements.{allocatable_faults}
 use Rattle.kind_laws.proofs.ScopesFound.{allocatables_are_found}
 use Rattle.kind_laws.specs.Standing.{Knows}
 use Rattle.kind_laws.specs.Found.{Holds, ScopeIsFound}
-use Rattle.small_laws.proofs.NoFaults.{none_first, none_after, not_broken, impossible, left_false, right_false}
+use Rattle.kind_laws.proofs.Held.{held-first}
+use Rattle.kind_laws.proofs.NoFaults.{none_first, none_after, not_broken, impossible, left_false, right_false}
 use Rattle.form_laws.proofs.Operands.{IsFound}
-use Rattle.form_laws.proofs.Walking.{Good, then-first, then-good}
+use Rattle.form_laws.proofs.Walking.{Good, then-good}
 use Rattle.form_laws.proofs.Entries.{NamesArray, names-array, allocatable_kind}
 use Rattle.form_laws.proofs.References.{Boxed, reference-boxed, bound-good, size-good, is_allocated-good}
 
@@ -110,7 +111,7 @@ module _ (vs : List Value) (t : List Row) (s : Scope) (knows : Knows t s) (scope
 
   array-asked : (x : Name) (ty : Typed) (o : Option BoundWord) (dim : Option ℕ) → NamesArray s.names x ty → Within dim ty.rank → Holds vs n ((reference x >>= bound_or_size o dim) s n).ops → Good vs ((reference x >>= bound_or_size o dim) s n)
   array-asked x ty o dim a h held =
-      let first : Boxed vs a.declare (reference x s n) = reference-boxed vs s scope x a.declare n a.is (then-first vs (reference x) (bound_or_size o dim) s n held) in
+      let first : Boxed vs a.declare (reference x s n) = reference-boxed vs s scope x a.declare n a.is (held-first vs (reference x) (bound_or_size o dim) s n held) in
       let r = (reference x s n).made in
       then-good vs (reference x) (bound_or_size o dim) s n first.fit
       (bounded o dim r _ first.found (ap (λ k. is_reference (Some k)) first.same ∙ a.reference) (subst (Within dim) (sym (ap rank_of first.same ∙ a.of_rank)) h))

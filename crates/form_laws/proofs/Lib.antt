@@ -9,7 +9,6 @@ pub mod Elementals
 pub mod Entries
 pub mod Folded
 pub mod Forms
-pub mod Grammar
 pub mod Inquiries
 pub mod Lowered
 pub mod Operands

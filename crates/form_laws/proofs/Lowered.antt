@@ -36,8 +36,9 @@ use Rattle.kind_laws.proofs.ExpressionsMade.{kinds_are_types}
 use Rattle.kind_laws.proofs.ExpressionsFound.{values_are_found}
 use Rattle.form_laws.proofs.Operands.{IsFound, found_of, giving-found}
 use Rattle.form_laws.proofs.Typed.{operand_elem-is, IsOf, AreOf, unary-made, binary-made}
-use Rattle.form_laws.proofs.Walking.{Good, good-made, then-first, then-second, Leaves, then-leaves, done-leaves}
+use Rattle.form_laws.proofs.Walking.{Good, good-made, Leaves, then-leaves, done-leaves}
 use Rattle.kind_laws.proofs.Arguments.{argued}
+use Rattle.kind_laws.proofs.Held.{held-first, held-rest}
 use Rattle.form_laws.proofs.Arguments.{no_ranks, one_type}
 use Rattle.form_laws.proofs.Entries.{NamesArray, names-array}
 use Rattle.form_laws.proofs.References.{Boxed, reference-boxed, constant-good, bound-good}
@@ -132,11 +133,11 @@ module _ (vs : List Value) (t : List Row) (s : Scope) (stage : Stage vs t s) (in
   subs-more r dim x xs n first rest held =
       let p = subscript r dim x in
       let q : Subscript → Lowering (List Subscript) = λ c. subscripts r (suc dim) xs >>= (λ cs. done (c ∷ cs)) in
-      let one = first (then-first vs p q s n held) in
+      let one = first (held-first vs p q s n held) in
       let c = (p s n).made in
       let k = n + numbers_of (p s n).ops in
       let last : List Subscript → Lowering (List Subscript) = λ cs. done (c ∷ cs) in
-      let more = rest k (then-first vs (subscripts r (suc dim) xs) last s k (then-second vs p q s n held)) in
+      let more = rest k (held-first vs (subscripts r (suc dim) xs) last s k (held-rest vs p q s n held)) in
       let cs = (subscripts r (suc dim) xs s k).made in
       then-leaves vs (Subscripted (suc (how_many xs))) p q s n one.fit
       (then-leaves vs (Subscripted (suc (how_many xs))) (subscripts r (suc dim) xs) last s k more.fit
@@ -146,17 +147,17 @@ module _ (vs : List Value) (t : List Row) (s : Scope) (stage : Stage vs t s) (in
       Holds vs n ((p >>= (λ x. q >>= (λ y. g >>= (λ z. done (Range x.value y.value z.value))))) s n).ops → Leaves vs (SubFits vs) ((p >>= (λ x. q >>= (λ y. g >>= (λ z. done (Range x.value y.value z.value))))) s n)
   three-leave p q g n a b c held =
       let f1 : Operand → Lowering Subscript = λ x. q >>= (λ y. g >>= (λ z. done (Range x.value y.value z.value))) in
-      let one = a n (then-first vs p f1 s n held) in
-      let rest1 = then-second vs p f1 s n held in
+      let one = a n (held-first vs p f1 s n held) in
+      let rest1 = held-rest vs p f1 s n held in
       let x = (p s n).made in
       let n1 = n + numbers_of (p s n).ops in
       let f2 : Operand → Lowering Subscript = λ y. g >>= (λ z. done (Range x.value y.value z.value)) in
-      let two = b n1 (then-first vs q f2 s n1 rest1) in
-      let rest2 = then-second vs q f2 s n1 rest1 in
+      let two = b n1 (held-first vs q f2 s n1 rest1) in
+      let rest2 = held-rest vs q f2 s n1 rest1 in
       let y = (q s n1).made in
       let n2 = n1 + numbers_of (q s n1).ops in
       let f3 : Operand → Lowering Subscript = λ z. done (Range x.value y.value z.value) in
-      let three = c n2 (then-first vs g f3 s n2 rest2) in
+      let three = c n2 (held-first vs g f3 s n2 rest2) in
       let z = (g s n2).made in
       then-leaves vs (SubFits vs) p f1 s n one.fit (then-leaves vs (SubFits vs) q f2 s n1 two.fit (then-leaves vs (SubFits vs) g f3 s n2 three.fit
       (done-leaves vs (SubFits vs) (Range x.value y.value z.value) s (n2 + numbers_of (g s n2).ops) (one.holds, two.holds, three.holds))))
@@ -172,15 +173,15 @@ module _ (vs : List Value) (t : List Row) (s : Scope) (stage : Stage vs t s) (in
       let ranked : name.0.rank ≡ how_many subs = part_says line name.0 (how_many subs) (ap (λ o. part_faults line o (how_many subs)) (sym name.1) ∙ g) in
       let a : NamesArray s.names x name.0 = names-array s x (standing_of t x) name.0 (stage.knows x) name.1 (let many = some_subs subs some in grind (arith, ranked, many)) in
       let q : Operand → Lowering Operand = λ r. subscripts r 1 subs >>= designated r in
-      let first : Boxed vs a.declare (reference x s n) = reference-boxed vs s stage.scope x a.declare n a.is (then-first vs (reference x) q s n held) in
+      let first : Boxed vs a.declare (reference x s n) = reference-boxed vs s stage.scope x a.declare n a.is (held-first vs (reference x) q s n held) in
       let r = (reference x s n).made in
       let k = n + numbers_of (reference x s n).ops in
-      let rest = then-second vs (reference x) q s n held in
+      let rest = held-rest vs (reference x) q s n held in
       let reference_is : is_reference (Some r.kind) ≡ true = ap (λ o. is_reference (Some o)) first.same ∙ a.reference in
       let rank_is : how_many subs ≡ rank_of r.kind = sym ranked ∙ (sym a.of_rank ∙ ap rank_of (sym first.same)) in
-      let second = inner r k first.found reference_is rank_is (then-first vs (subscripts r 1 subs) (designated r) s k rest) in
+      let second = inner r k first.found reference_is rank_is (held-first vs (subscripts r 1 subs) (designated r) s k rest) in
       let cs = (subscripts r 1 subs s k).made in
-      let third = designated-part vs r first.found reference_is cs (second.holds.1 ∙ rank_is) second.holds.0 s (k + numbers_of (subscripts r 1 subs s k).ops) (then-second vs (subscripts r 1 subs) (designated r) s k rest) in
+      let third = designated-part vs r first.found reference_is cs (second.holds.1 ∙ rank_is) second.holds.0 s (k + numbers_of (subscripts r 1 subs s k).ops) (held-rest vs (subscripts r 1 subs) (designated r) s k rest) in
       then-part vs (reference x) q s n first.fit (then-part vs (subscripts r 1 subs) (designated r) s k second.fit third)
     where
       some_subs : {k : Count} (ss : Subs k) → HasSubs ss → 1 ≤ how_many ss

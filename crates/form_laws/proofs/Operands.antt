@@ -2,22 +2,17 @@
 use Rattle.std.proofs.Common.{◌≡◌, refl, sym, ap, ◌∙◌, ℕ, ◌==◌, Bool, true, false, List, [], ◌∷◌, Some}
 use Rattle.std.proofs.lemmas.Bool.{true≢false}
 use Rattle.hlfir_ops.specs.declared.kinds.Elem.{Elem}
-use Rattle.hlfir_ops.specs.declared.kinds.Elem.TheVariants.{I32, I1}
 use Rattle.hlfir_ops.specs.declared.kinds.ValueKind.{ValueKind}
 use Rattle.hlfir_ops.specs.declared.kinds.ValueKind.TheVariants.{Scalar, Place, Declared, Allocatable, Section, Array}
 use Rattle.hlfir_ops.specs.declared.what.What.{What}
 use Rattle.hlfir_ops.specs.declared.op.ValueId.{ValueId}
-use Rattle.hlfir_ops.specs.RulesValues.{Value, kind_of, kind_at, same_elem, elem_of, rank_of, is_array}
+use Rattle.hlfir_ops.specs.RulesValues.{Value, kind_of, kind_at, elem_of, rank_of, is_array}
 use Rattle.lower_assign.specs.declared.operand.Operand.{Operand}
 use Rattle.lower_assign.specs.Scopes.{Scope}
 use Rattle.lower_assign.specs.Lowerings.{Lowered, giving}
 use Rattle.kind_laws.specs.Found.{Holds, Found}
 use Rattle.form_laws.proofs.Passing.{AreFit, fit-op, part_fits}
 use Rattle.kind_laws.proofs.Finding.{own_value}
-
-pub same_elem-same : (e : Elem) → same_elem e e ≡ true
-same_elem-same I32 = refl
-same_elem-same I1 = refl
 
 -- a scalar, or what has a rank above 0
 abbrev pub IsSolid : ValueKind → Type 0
@@ -76,7 +71,3 @@ module _ (vs : List Value) where
     pub giving-fit : part_fits vs b w s.line os (Some k) [] ≡ true → AreFit vs b (giving w os k s n).ops
     unfolding giving
     giving-fit g = fit-op vs b w s.line os (Some k) [] g tt
-
-    pub giving-made : part_fits vs b w s.line os (Some k) [] ≡ true → IsSolid k → Made b (giving w os k s n)
-    unfolding giving
-    giving-made g solid = record { fit = giving-fit g; stands = record { found = giving-found; solid = solid } }

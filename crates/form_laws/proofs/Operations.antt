@@ -1,5 +1,6 @@
 -- Operations on operands of known types.
 use Rattle.std.proofs.Common.{◌≡◌, refl, sym, ap, ◌∙◌, subst, ℕ, zero, suc, ◌==◌, ◌⊎◌, inl, inr, Bool, true, false, ◌&&◌, List, [], ◌∷◌, Option, Some, arith, if◌then◌else◌}
+use Rattle.std.proofs.lemmas.Bool.{and_from}
 use Rattle.ws_types.specs.Operations.{differ}
 use Rattle.hlfir_ops.specs.declared.kinds.Elem.{Elem}
 use Rattle.hlfir_ops.specs.declared.kinds.Elem.TheVariants.{I1}
@@ -16,9 +17,10 @@ use Rattle.lower_assign.specs.Scopes.{Scope}
 use Rattle.lower_assign.specs.Lowerings.{Lowered, giving, giving_by}
 use Rattle.lower_assign.specs.Operations.{values_of, arranged, on_scalars, at_each, operation, rank_from}
 use Rattle.kind_laws.specs.Found.{Holds}
-use Rattle.form_laws.proofs.Passing.{both, part_fits}
+use Rattle.form_laws.proofs.Passing.{part_fits}
 use Rattle.kind_laws.proofs.Finding.{own_value}
-use Rattle.form_laws.proofs.Operands.{same_elem-same, scalar_kind, AreScalars, Made}
+use Rattle.kind_laws.proofs.TypesTold.{same_elem-same}
+use Rattle.form_laws.proofs.Operands.{scalar_kind, AreScalars, Made}
 use Rattle.form_laws.proofs.Elementals.{elems_of, HasRank, TakesScalars, Conform, on_scalars-fit}
 use Rattle.form_laws.proofs.Bodies.{at_each-made}
 
@@ -32,7 +34,7 @@ takes-unary op = record { fits = fits; no_apply = refl }
   where
     fits : (vs : List Value) (b : Bool) (line : ℕ) (ys : List Operand) → AreScalars vs ys (unary_elem op ∷ []) → part_fits vs b (what.Unary op) line (arranged (what.Unary op) (values_of ys)) (Some (Scalar (unary_elem op))) [] ≡ true
     fits vs b line [] h = absurd h
-    fits vs b line (y ∷ []) h = both (is_scalar (unary_elem op) (kind_at vs y.value)) (same_elem (unary_elem op) (unary_elem op)) (is_one (unary_elem op) (kind_at vs y.value) h.0) (same_elem-same (unary_elem op))
+    fits vs b line (y ∷ []) h = and_from (is_scalar (unary_elem op) (kind_at vs y.value)) (same_elem (unary_elem op) (unary_elem op)) (is_one (unary_elem op) (kind_at vs y.value) h.0) (same_elem-same (unary_elem op))
     fits vs b line (y ∷ z ∷ ys) h = absurd h.1
 
 pub takes-binary : (op : ValueBinary) → TakesScalars (what.Binary op) (result_elem op) (operand_elem op ∷ operand_elem op ∷ [])
@@ -42,8 +44,8 @@ takes-binary op = record { fits = fits; no_apply = refl }
     fits vs b line [] h = absurd h
     fits vs b line (y ∷ []) h = absurd h.1
     fits vs b line (y ∷ z ∷ []) h =
-        both (are_two (operand_elem op) vs (y.value ∷ z.value ∷ [])) (same_elem (result_elem op) (result_elem op))
-        (both (is_scalar (operand_elem op) (kind_at vs y.value)) (is_scalar (operand_elem op) (kind_at vs z.value)) (is_one (operand_elem op) (kind_at vs y.value) h.0) (is_one (operand_elem op) (kind_at vs z.value) h.1.0)) (same_elem-same (result_elem op))
+        and_from (are_two (operand_elem op) vs (y.value ∷ z.value ∷ [])) (same_elem (result_elem op) (result_elem op))
+        (and_from (is_scalar (operand_elem op) (kind_at vs y.value)) (is_scalar (operand_elem op) (kind_at vs z.value)) (is_one (operand_elem op) (kind_at vs y.value) h.0) (is_one (operand_elem op) (kind_at vs z.value) h.1.0)) (same_elem-same (result_elem op))
     fits vs b line (y ∷ z ∷ x ∷ ys) h = absurd h.1.1
 
 pub takes-select : (e : Elem) → TakesScalars what.Select e (e ∷ e ∷ I1 ∷ [])
@@ -55,9 +57,9 @@ takes-select e = record { fits = fits; no_apply = refl }
     fits vs b line (y ∷ z ∷ []) h = absurd h.1.1
     fits vs b line (y ∷ z ∷ m ∷ []) h =
         let choices : (is_scalar I1 (kind_at vs m.value) && same_scalars (kind_at vs y.value) (kind_at vs z.value)) ≡ true =
-        both (is_scalar I1 (kind_at vs m.value)) (same_scalars (kind_at vs y.value) (kind_at vs z.value)) (is_one I1 (kind_at vs m.value) h.1.1.0)
+        and_from (is_scalar I1 (kind_at vs m.value)) (same_scalars (kind_at vs y.value) (kind_at vs z.value)) (is_one I1 (kind_at vs m.value) h.1.1.0)
         (ap (λ k. same_scalars k (kind_at vs z.value)) h.0 ∙ (ap (same_scalars (Some (Scalar e))) h.1.0 ∙ same_elem-same e)) in
-        both (are_choices vs (m.value ∷ y.value ∷ z.value ∷ [])) (is_scalar_of (kind_at vs y.value) (Some (Scalar e))) choices (ap (λ k. is_scalar_of k (Some (Scalar e))) h.0 ∙ same_elem-same e)
+        and_from (are_choices vs (m.value ∷ y.value ∷ z.value ∷ [])) (is_scalar_of (kind_at vs y.value) (Some (Scalar e))) choices (ap (λ k. is_scalar_of k (Some (Scalar e))) h.0 ∙ same_elem-same e)
     fits vs b line (y ∷ z ∷ m ∷ x ∷ ys) h = absurd h.1.1.1
 
 -- ---- an operation

@@ -2,6 +2,7 @@
 use Rattle.std.proofs.Common.{◌≡◌, refl, sym, ap, ◌∙◌, ℕ, ◌+◌, ◌≤◌, ◌==◌, Bool, true, false, ◌&&◌, nat_lt, List, [], ◌∷◌, map, length, Some, if◌then◌else◌, arith}
 use Rattle.std.proofs.lemmas.List.{length-map}
 use Rattle.std.specs.List.{flat_map}
+use Rattle.std.proofs.lemmas.Bool.{and_from}
 use Rattle.ws_types.specs.declared.types.Typed.{Typed}
 use Rattle.hlfir_ops.specs.declared.kinds.Elem.{Elem}
 use Rattle.hlfir_ops.specs.declared.kinds.Elem.TheVariants.{I32}
@@ -20,8 +21,9 @@ use Rattle.lower_assign.specs.Scopes.{Scope}
 use Rattle.lower_assign.specs.Lowerings.{Lowering, Lowered, ◌>>=◌, giving}
 use Rattle.lower_assign.specs.References.{sub_kind, sub_values, subscript_of, part_kind, designated}
 use Rattle.kind_laws.specs.Found.{Holds}
-use Rattle.form_laws.proofs.Passing.{both, part_fits, AreFit, fit-append}
-use Rattle.form_laws.proofs.Operands.{same_elem-same, scalar_kind, array_kind, IsFound, giving-found, giving-fit}
+use Rattle.kind_laws.proofs.TypesTold.{same_elem-same}
+use Rattle.form_laws.proofs.Passing.{part_fits, AreFit, fit-append}
+use Rattle.form_laws.proofs.Operands.{scalar_kind, array_kind, IsFound, giving-found, giving-fit}
 use Rattle.form_laws.proofs.Typed.{IsOf}
 use Rattle.form_laws.proofs.References.{IsLoadable}
 
@@ -30,9 +32,9 @@ loadable-part e rank true h = tt
 loadable-part e rank false h = h
 
 part_fitting : (e : Elem) (rank : ℕ) (k : ValueKind) (b : Bool) → elem_of k ≡ e → (rank == 0) ≡ b → is_part_of (Some k) rank (Some (if b then kind.Place e else kind.Section e rank)) ≡ true
-part_fitting e rank k true is h = both (same_elem (elem_of k) e) (rank == 0) (ap (λ f. same_elem f e) is ∙ same_elem-same e) h
+part_fitting e rank k true is h = and_from (same_elem (elem_of k) e) (rank == 0) (ap (λ f. same_elem f e) is ∙ same_elem-same e) h
 part_fitting e rank k false is h =
-    both (same_elem (elem_of k) e && nat_lt 0 rank) (rank == rank) (both (same_elem (elem_of k) e) (nat_lt 0 rank) (ap (λ f. same_elem f e) is ∙ same_elem-same e) (grind (arith, h))) (grind arith)
+    and_from (same_elem (elem_of k) e && nat_lt 0 rank) (rank == rank) (and_from (same_elem (elem_of k) e) (nat_lt 0 rank) (ap (λ f. same_elem f e) is ∙ same_elem-same e) (grind (arith, h))) (grind arith)
 
 module _ (vs : List Value) where
   abbrev pub IsInteger : ValueId → Type 0
@@ -52,11 +54,11 @@ module _ (vs : List Value) where
 
   taken : (ss : List Subscript) → AllSubs ss → take_subscripts vs (map sub_kind ss) (flat_map sub_values ss) ≡ true
   taken [] h = refl
-  taken (One i ∷ ss) h = both (is_scalar I32 (kind_at vs i)) (take_subscripts vs (map sub_kind ss) (flat_map sub_values ss)) (integer i h.0) (taken ss h.1)
+  taken (One i ∷ ss) h = and_from (is_scalar I32 (kind_at vs i)) (take_subscripts vs (map sub_kind ss) (flat_map sub_values ss)) (integer i h.0) (taken ss h.1)
   taken (Range l u s ∷ ss) h =
-      both (is_scalar I32 (kind_at vs l) && is_scalar I32 (kind_at vs u) && is_scalar I32 (kind_at vs s)) (take_subscripts vs (map sub_kind ss) (flat_map sub_values ss))
-      (both (is_scalar I32 (kind_at vs l) && is_scalar I32 (kind_at vs u)) (is_scalar I32 (kind_at vs s)) (both (is_scalar I32 (kind_at vs l)) (is_scalar I32 (kind_at vs u)) (integer l h.0.0) (integer u h.0.1)) (integer s h.0.2)) (taken ss h.1)
-  taken (Vector v ∷ ss) h = both (is_index_vector (kind_at vs v)) (take_subscripts vs (map sub_kind ss) (flat_map sub_values ss)) h.0 (taken ss h.1)
+      and_from (is_scalar I32 (kind_at vs l) && is_scalar I32 (kind_at vs u) && is_scalar I32 (kind_at vs s)) (take_subscripts vs (map sub_kind ss) (flat_map sub_values ss))
+      (and_from (is_scalar I32 (kind_at vs l) && is_scalar I32 (kind_at vs u)) (is_scalar I32 (kind_at vs s)) (and_from (is_scalar I32 (kind_at vs l)) (is_scalar I32 (kind_at vs u)) (integer l h.0.0) (integer u h.0.1)) (integer s h.0.2)) (taken ss h.1)
+  taken (Vector v ∷ ss) h = and_from (is_index_vector (kind_at vs v)) (take_subscripts vs (map sub_kind ss) (flat_map sub_values ss)) h.0 (taken ss h.1)
 
   -- ---- one subscript
 
@@ -69,7 +71,7 @@ module _ (vs : List Value) where
   one_or_vector ty x false of truth low is =
       let one : (rank_of x.kind == 1) ≡ true = grind (arith, is, of.of_rank, low) in
       ap is_index_vector of.stands.found
-      ∙ both (is_array (Some x.kind) && has_elem I32 (Some x.kind)) (has_rank 1 (Some x.kind)) (both (is_array (Some x.kind)) (has_elem I32 (Some x.kind)) (array_kind x.kind is) (ap (same_elem I32) (of.of_elem ∙ ap elem truth))) one
+      ∙ and_from (is_array (Some x.kind) && has_elem I32 (Some x.kind)) (has_rank 1 (Some x.kind)) (and_from (is_array (Some x.kind)) (has_elem I32 (Some x.kind)) (array_kind x.kind is) (ap (same_elem I32) (of.of_elem ∙ ap elem truth))) one
 
   pub subscript-fits : (ty : Typed) (x : Operand) → IsOf vs ty x → ty.truth ≡ false → ty.rank ≤ 1 → SubFits (subscript_of x)
   subscript-fits ty x of truth low = one_or_vector ty x (rank_of x.kind == 0) of truth low refl
@@ -93,9 +95,9 @@ module _ (vs : List Value) where
     designate-fits =
         let many : (rank_of r.kind == length (map sub_kind ss)) ≡ true = grind (arith, long, length-map ss sub_kind) in
         ap (λ k. (is_reference k && has_rank (length (map sub_kind ss)) k && take_subscripts vs (map sub_kind ss) (flat_map sub_values ss)) && is_part_of k rank (Some (part_kind (elem_of r.kind) rank))) found
-        ∙ both (is_reference (Some r.kind) && has_rank (length (map sub_kind ss)) (Some r.kind) && take_subscripts vs (map sub_kind ss) (flat_map sub_values ss)) (is_part_of (Some r.kind) rank (Some (part_kind (elem_of r.kind) rank)))
-        (both (is_reference (Some r.kind) && has_rank (length (map sub_kind ss)) (Some r.kind)) (take_subscripts vs (map sub_kind ss) (flat_map sub_values ss))
-        (both (is_reference (Some r.kind)) (has_rank (length (map sub_kind ss)) (Some r.kind)) reference many) (taken ss fits))
+        ∙ and_from (is_reference (Some r.kind) && has_rank (length (map sub_kind ss)) (Some r.kind) && take_subscripts vs (map sub_kind ss) (flat_map sub_values ss)) (is_part_of (Some r.kind) rank (Some (part_kind (elem_of r.kind) rank)))
+        (and_from (is_reference (Some r.kind) && has_rank (length (map sub_kind ss)) (Some r.kind)) (take_subscripts vs (map sub_kind ss) (flat_map sub_values ss))
+        (and_from (is_reference (Some r.kind)) (has_rank (length (map sub_kind ss)) (Some r.kind)) reference many) (taken ss fits))
         (part_fitting (elem_of r.kind) rank r.kind (rank == 0) refl refl)
 
     pub designated-part : Holds vs n (designated r ss s n).ops → Part (designated r ss s n)

@@ -3,6 +3,7 @@ use Rattle.std.proofs.Common.{◌≡◌, refl, sym, ap, ◌∙◌, subst, ℕ, s
 use Rattle.std.proofs.lemmas.List.{append-nil}
 use Rattle.std.proofs.lemmas.List.Folds.{list_all-append}
 use Rattle.std.specs.List.{list_all}
+use Rattle.std.proofs.lemmas.Bool.{and_from}
 use Rattle.hlfir_ops.specs.declared.kinds.ValueKind.{ValueKind}
 use Rattle.hlfir_ops.specs.declared.what.What.{What}
 use Rattle.hlfir_ops.specs.declared.op.ValueId.{ValueId}
@@ -15,9 +16,6 @@ use Rattle.hlfir_ops.specs.RulesForms.{has_regions, is_filled_where, takes, give
 use Rattle.hlfir_ops.specs.RulesPlaces.{Around, Place, Site, is_elemental, around_in, from_number, sites_of, sites_in}
 use Rattle.hlfir_ops.specs.Rules.{operands_fit, result_fits}
 use Rattle.kind_laws.proofs.Sited.{op_sites-parts, sites_of-append, defined_by}
-
-pub both : (a b : Bool) → a ≡ true → b ≡ true → (a && b) ≡ true
-both a b h g = ap (λ c. c && b) h ∙ g
 
 module _ (vs : List Value) where
   -- whether an op has its form; the Bool says whether it stands in an elemental
@@ -44,7 +42,7 @@ module _ (vs : List Value) where
         let rest = sites_of a (before ++ xs) (numbers_of xs + n) (defined ++ defined_by n xs) ys in
         ap (list_all site_fits) (sites_of-append a before n defined xs ys)
         ∙ (list_all-append site_fits (sites_of a before n defined xs) rest
-        ∙ both (list_all site_fits (sites_of a before n defined xs)) (list_all site_fits rest) (h.anywhere a before n defined is) (g.anywhere a (before ++ xs) (numbers_of xs + n) (defined ++ defined_by n xs) is));
+        ∙ and_from (list_all site_fits (sites_of a before n defined xs)) (list_all site_fits rest) (h.anywhere a before n defined is) (g.anywhere a (before ++ xs) (numbers_of xs + n) (defined ++ defined_by n xs) is));
   }
 
   pub fit-region : (e : Bool) (ops : List Op) → AreFit e ops → AreFit e (out-Region (region_of ops)).ops
@@ -57,7 +55,7 @@ module _ (vs : List Value) where
       let here = sites_of (around_in a w k) [] (length (names_in w k) + n) (defined ++ from_number n (names_in w k)) ops in
       let rest = sites_in a w (suc k) ((length (names_in w k) + numbers_of ops) + n) defined rs in
       list_all-append site_fits here rest
-      ∙ both (list_all site_fits here) (list_all site_fits rest) (h.0.anywhere (around_in a w k) [] (length (names_in w k) + n) (defined ++ from_number n (names_in w k)) is)
+      ∙ and_from (list_all site_fits here) (list_all site_fits rest) (h.0.anywhere (around_in a w k) [] (length (names_in w k) + n) (defined ++ from_number n (names_in w k)) is)
       (regions_fit e a w (suc k) ((length (names_in w k) + numbers_of ops) + n) defined rs h.1 is)
 
   module _ (e : Bool) (w : What) (line : ℕ) (os : List ValueId) (kind : Option ValueKind) (rs : List Region) where
@@ -82,6 +80,6 @@ module _ (vs : List Value) where
           let p : Place = record { around = a; before = before; number = n; defined = defined } in
           let inner : Op-F Op Region → Bool = λ f. list_all site_fits (sites_in a f.what 0 (own_numbers f.kind + n) defined f.regions) in
           ap (list_all site_fits) (append-nil _ ∙ op_sites-parts p op)
-          ∙ both (forms_fit a.elemental op) (inner (out-Op op)) (ap (λ b. forms_fit b op) is ∙ (op_fits ∙ h))
+          ∙ and_from (forms_fit a.elemental op) (inner (out-Op op)) (ap (λ b. forms_fit b op) is ∙ (op_fits ∙ h))
           (ap inner (out-roll-Op fields) ∙ regions_fit (is_elemental w || e) a w 0 (own_numbers kind + n) defined rs g (ap (λ b. is_elemental w || b) is));
     }

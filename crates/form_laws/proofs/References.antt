@@ -1,5 +1,6 @@
 -- Declares, boxes, loads, parts and inquiries.
 use Rattle.std.proofs.Common.{◌≡◌, refl, sym, ap, ◌∙◌, subst, ℕ, ◌<◌, ◌≤◌, ◌==◌, Bool, true, false, ◌&&◌, nat_lt, nat_le, List, [], ◌∷◌, Option, Some, None, ℤ, arith}
+use Rattle.std.proofs.lemmas.Bool.{and_from}
 use Rattle.ws_base.specs.Numbers.{truth}
 use Rattle.ws_base.specs.declared.refusal.RefusalKind.TheVariants as refusal
 use Rattle.ws_types.specs.declared.types.Entry.{Entry}
@@ -22,11 +23,13 @@ use Rattle.lower_assign.specs.Operations.{constant}
 use Rattle.lower_assign.specs.References.{variable_of, or_nothing, declare_of, box_of, boxed, reference, load_of, loaded, truth_of, variable_or_truth, index_or_other, named, bound, size, is_allocated}
 use Rattle.kind_laws.specs.Standing.{FitsEntry, EntryIsKnown, NameIsKnown}
 use Rattle.kind_laws.specs.Found.{Holds, ScopeIsFound}
-use Rattle.small_laws.proofs.NoFaults.{none_first, none_after, impossible}
-use Rattle.form_laws.proofs.Passing.{both, part_fits, AreFit, fit-none, fit-op}
-use Rattle.form_laws.proofs.Operands.{same_elem-same, IsSolid, IsFound, giving-found, giving-fit}
-use Rattle.form_laws.proofs.Walking.{Good, then-first, then-good, done-good}
+use Rattle.form_laws.proofs.Passing.{part_fits, AreFit, fit-none, fit-op}
+use Rattle.form_laws.proofs.Operands.{IsSolid, IsFound, giving-found, giving-fit}
+use Rattle.form_laws.proofs.Walking.{Good, then-good, done-good}
 use Rattle.kind_laws.proofs.FormsFound.{declare_found}
+use Rattle.kind_laws.proofs.Held.{held-first}
+use Rattle.kind_laws.proofs.NoFaults.{none_first, none_after, impossible}
+use Rattle.kind_laws.proofs.TypesTold.{same_elem-same}
 
 -- a place, or the kind of a value
 abbrev pub IsLoadable : ValueKind → Type 0
@@ -62,7 +65,7 @@ module _ (vs : List Value) where
   box-fits : (e : Elem) (rank : ℕ) (d : Operand) (line : ℕ) → IsFound vs d → d.kind ≡ kind.Allocatable e rank → part_fits vs false what.Boxed line (d.value ∷ []) (Some (kind.Allocatable e rank)) [] ≡ true
   box-fits e rank d line found is =
       ap (λ k. is_allocatable k && is_boxed k (Some (kind.Allocatable e rank))) (found ∙ ap Some is)
-      ∙ both (same_elem e e) (rank == rank) (same_elem-same e) (grind arith)
+      ∙ and_from (same_elem e e) (rank == rank) (same_elem-same e) (grind arith)
 
   box-boxed : (k : ValueKind) (d : Operand) (s : Scope) (n : ℕ) → IsFound vs d → d.kind ≡ k → Holds vs n (box_of k d s n).ops → Boxed d (box_of k d s n)
   unfolding done giving
@@ -113,7 +116,7 @@ module _ (vs : List Value) where
     variable-good : (e : Entry) (n : ℕ) (o : Option Operand) (d : Operand) → o ≡ Some d → variable_of s.names.variables x ≡ Some d → FitsEntry e d.kind → Holds vs n (variable_or_truth s.names x o s n).ops → Good vs (variable_or_truth s.names x o s n)
     variable-good e n o d is found fits held =
         let whole : Holds vs n ((boxed d >>= loaded) s n).ops → Good vs ((boxed d >>= loaded) s n) = λ h.
-        let first = boxed-boxed d s n (ap kind_of (variable-found d found)) (then-first vs (boxed d) loaded s n h) in
+        let first = boxed-boxed d s n (ap kind_of (variable-found d found)) (held-first vs (boxed d) loaded s n h) in
         let r = (boxed d s n).made in
         then-good vs (boxed d) loaded s n first.fit (loaded-good r s _ first.found (subst IsLoadable (sym first.same) (loadable_entry e d.kind fits))) in
         subst (λ p. Holds vs n (variable_or_truth s.names x p s n).ops → Good vs (variable_or_truth s.names x p s n)) (sym is) whole held
@@ -145,8 +148,8 @@ module _ (vs : List Value) where
   pub bound-fits : (w : BoundWord) (dim : ℕ) (r : Operand) (line : ℕ) → IsFound vs r → is_reference (Some r.kind) ≡ true → 1 ≤ dim → dim ≤ rank_of r.kind → part_fits vs false (what.Bound w dim) line (r.value ∷ []) (Some (kind.Scalar I32)) [] ≡ true
   bound-fits w dim r line found reference low high =
       ap (λ k. (is_reference k && has_dimension dim k) && true) found
-      ∙ both (is_reference (Some r.kind) && has_dimension dim (Some r.kind)) true (both (is_reference (Some r.kind)) (has_dimension dim (Some r.kind)) reference
-      (both (nat_lt 0 dim) (nat_le dim (rank_of r.kind)) (grind (arith, low)) (grind (arith, high)))) refl
+      ∙ and_from (is_reference (Some r.kind) && has_dimension dim (Some r.kind)) true (and_from (is_reference (Some r.kind)) (has_dimension dim (Some r.kind)) reference
+      (and_from (nat_lt 0 dim) (nat_le dim (rank_of r.kind)) (grind (arith, low)) (grind (arith, high)))) refl
 
   pub bound-good : (w : BoundWord) (dim : ℕ) (r : Operand) (s : Scope) (n : ℕ) → IsFound vs r → is_reference (Some r.kind) ≡ true → 1 ≤ dim → dim ≤ rank_of r.kind → Good vs (bound w dim r s n)
   unfolding bound giving
@@ -154,8 +157,8 @@ module _ (vs : List Value) where
 
   pub size-good : (r : Operand) (s : Scope) (n : ℕ) → IsFound vs r → is_reference (Some r.kind) ≡ true → Good vs (size None r s n)
   unfolding giving
-  size-good r s n found reference = record { fit = fit-op vs false what.Size s.line (r.value ∷ []) (Some (kind.Scalar I32)) [] (ap (λ k. is_reference k && true) found ∙ both (is_reference (Some r.kind)) true reference refl) tt; solid = tt }
+  size-good r s n found reference = record { fit = fit-op vs false what.Size s.line (r.value ∷ []) (Some (kind.Scalar I32)) [] (ap (λ k. is_reference k && true) found ∙ and_from (is_reference (Some r.kind)) true reference refl) tt; solid = tt }
 
   pub is_allocated-good : (d : Operand) (s : Scope) (n : ℕ) → IsFound vs d → is_allocatable (Some d.kind) ≡ true → Good vs (is_allocated d s n)
   unfolding giving
-  is_allocated-good d s n found is = record { fit = fit-op vs false what.Allocated s.line (d.value ∷ []) (Some (kind.Scalar I1)) [] (ap (λ k. is_allocatable k && true) found ∙ both (is_allocatable (Some d.kind)) true is refl) tt; solid = tt }
+  is_allocated-good d s n found is = record { fit = fit-op vs false what.Allocated s.line (d.value ∷ []) (Some (kind.Scalar I1)) [] (ap (λ k. is_allocatable k && true) found ∙ and_from (is_allocatable (Some d.kind)) true is refl) tt; solid = tt }

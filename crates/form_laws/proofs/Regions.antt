@@ -1,6 +1,7 @@
 -- Forms through lowerings of statements and their regions.
 use Rattle.std.proofs.Common.{◌≡◌, refl, sym, subst, ℕ, suc, ◌+◌, true, false, ◌||◌, List, [], ◌∷◌, length, None}
 use Rattle.std.specs.Prelude.{⊤}
+use Rattle.std.specs.List.{AllByRecursion}
 use Rattle.hlfir_ops.specs.declared.what.What.{What}
 use Rattle.hlfir_ops.specs.declared.what.What.TheVariants as what
 use Rattle.hlfir_ops.specs.declared.op.ValueId.{ValueId}
@@ -15,11 +16,6 @@ use Rattle.kind_laws.specs.Found.{Holds, HoldsNames, RegionsHeld}
 use Rattle.kind_laws.proofs.ScopesFound.{regions_are_held}
 use Rattle.form_laws.proofs.Passing.{AreFit, AllFit, fit-none, fit-append, fit-op, fit-region, part_fits}
 use Rattle.kind_laws.proofs.Finding.{holds_first, holds_after}
-
--- each item is so
-abbrev pub AllOf : {A : Type 0} → (A → Type 0) → List A → Type 0
-AllOf P [] = Unit {0}
-AllOf P (x ∷ xs) = P x × AllOf P xs
 
 module _ (vs : List Value) where
   -- the ops of a lowering have their forms, wherever they stand among the values
@@ -82,7 +78,7 @@ module _ (vs : List Value) where
 
   -- ---- one item after another
 
-  pub walks-in_turn : {A : Type 0} (s : Scope) (P : A → Type 0) (f : ℕ → A → Lowering ⊤) (k : ℕ) (xs : List A) → ((j : ℕ) (x : A) → P x → Walks s (f j x)) → AllOf P xs → Walks s (in_turn f k xs)
+  pub walks-in_turn : {A : Type 0} (s : Scope) (P : A → Type 0) (f : ℕ → A → Lowering ⊤) (k : ℕ) (xs : List A) → ((j : ℕ) (x : A) → P x → Walks s (f j x)) → AllByRecursion P xs → Walks s (in_turn f k xs)
   unfolding in_turn
   walks-in_turn s P f k [] g h = walks-done s tt
   walks-in_turn s P f k (x ∷ xs) g h = walks-then s (f k x) (λ _. in_turn f (suc k) xs) (g k x h.0) (λ _. walks-in_turn s P f (suc k) xs g h.1)

@@ -7,12 +7,12 @@ use Rattle.ws_base.specs.declared.op.BinOp.{BinOp}
 use Rattle.ws_base.specs.declared.refusal.RefusalKind.TheVariants as refusal
 use Rattle.ws_types.specs.declared.types.Typed.{Typed}
 use Rattle.ws_types.specs.declared.types.Arguments.{Arguments}
-use Rattle.ws_types.specs.Operations.{differ, takes_truth, joins_truths, is_other_type, is_above, unary_faults, binary_faults, scalar_faults, subscript_faults, part_faults, vector_faults, call_faults}
+use Rattle.ws_types.specs.Operations.{differ, takes_truth, joins_truths, is_other_type, is_above, unary_faults, binary_faults, subscript_faults, part_faults, vector_faults, call_faults}
 use Rattle.ws_types.specs.Expressions.{wide_faults}
 use Rattle.hlfir_ops.specs.declared.what.ValueBinary.{ValueBinary}
-use Rattle.small_laws.proofs.NoFaults.{none_first, none_after, not_broken, impossible, left_false, right_false}
-use Rattle.form_laws.proofs.Typed.{not_other}
 use Rattle.form_laws.proofs.Folded.{Nests}
+use Rattle.kind_laws.proofs.NoFaults.{none_first, none_after, not_broken, impossible, left_false, right_false}
+use Rattle.kind_laws.proofs.TypesTold.{not_other}
 
 pub small_number : (n : ℕ) → n < 2147483648 → in_range default_half (pos n) ≡ true
 small_number n h = grind (arith, h)
@@ -20,13 +20,6 @@ small_number n h = grind (arith, h)
 -- what the rules say of a subscript
 pub low_rank : (ty : Typed) (high : ℕ) → is_above high (Some ty) ≡ false → ty.rank ≤ high
 low_rank ty high h = grind (arith, h)
-
-pub no_rank : (ty : Typed) → is_above 0 (Some ty) ≡ false → ty.rank ≡ 0
-no_rank ty h = grind (arith, h)
-
-pub scalar_says : (line : ℕ) (ty : Typed) → scalar_faults line (Some ty) ≡ [] → (ty.truth ≡ false) × (ty.rank ≡ 0)
-unfolding scalar_faults
-scalar_says line ty f = (not_other false ty (not_broken _ _ _ (none_first _ _ f)), no_rank ty (not_broken _ _ _ (none_after _ _ f)))
 
 pub subscript_says : (line : ℕ) (ty : Typed) → subscript_faults line (Some ty) ≡ [] → (ty.truth ≡ false) × (ty.rank ≤ 1)
 unfolding subscript_faults

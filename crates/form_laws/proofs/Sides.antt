@@ -17,9 +17,9 @@ use Rattle.lower_assign.specs.References.{nothing, variable_of, or_nothing, decl
 use Rattle.lower_assign.specs.Values.{value}
 use Rattle.lower_assign.specs.Lists.{stride}
 use Rattle.lower_assign.specs.Statements.{whole_left, left_of, left}
-use Rattle.small_laws.proofs.NoFaults.{none_first, none_after}
 use Rattle.form_laws.proofs.Passing.{AreFit, fit-none}
 use Rattle.kind_laws.proofs.Sides.{sides_are_expressions}
+use Rattle.kind_laws.proofs.NoFaults.{none_first, none_after}
 use Rattle.form_laws.proofs.References.{boxed-boxed, constant-good, variable-found}
 use Rattle.form_laws.proofs.Says.{no_wide}
 use Rattle.form_laws.proofs.Lowered as lowered

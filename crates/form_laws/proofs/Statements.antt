@@ -1,7 +1,6 @@
 -- The statements that hold no others.
-use Rattle.std.proofs.Common.{◌≡◌, refl, sym, ap, ◌∙◌, ℕ, ◌+◌, ◌-◌, ◌*◌, ◌%◌, ◌==◌, Bool, true, false, not, ◌&&◌, ◌||◌, nat_eq, List, [], ◌∷◌, ◌++◌, length, All, Option, Some, None, IfSome, slice_get, pos, arith, if◌then◌else◌}
-use Rattle.std.proofs.lemmas.Bool.{true≢false}
-use Rattle.std.proofs.lemmas.List.{length-append}
+use Rattle.std.proofs.Common.{◌≡◌, refl, sym, ap, ◌∙◌, ℕ, ◌+◌, ◌*◌, ◌%◌, ◌==◌, Bool, true, false, not, ◌&&◌, ◌||◌, nat_eq, List, [], ◌∷◌, ◌++◌, length, All, Option, Some, None, IfSome, pos, arith}
+use Rattle.std.proofs.lemmas.Bool.{true≢false, and_from, or_right}
 use Rattle.std.proofs.lemmas.List.Elements.{All-head, All-tail}
 use Rattle.ws_base.specs.declared.name.Name.{Name}
 use Rattle.ws_base.specs.declared.refusal.RefusalKind.TheVariants as refusal
@@ -20,46 +19,28 @@ use Rattle.ws_sema.specs.Statements.{is_other_bounds, allocatable_faults, alloca
 use Rattle.hlfir_ops.specs.declared.kinds.Elem.TheVariants.{I32}
 use Rattle.hlfir_ops.specs.declared.what.What.{What}
 use Rattle.hlfir_ops.specs.declared.what.What.TheVariants as what
-use Rattle.hlfir_ops.specs.declared.op.ValueId.{ValueId}
-use Rattle.hlfir_ops.specs.declared.op.Op.{Op, Op-F, out-roll-Op}
-use Rattle.hlfir_ops.specs.declared.op.Region.{Region, out-Region, out-roll-Region}
-use Rattle.hlfir_ops.specs.Trees.{op_of, region_of}
+use Rattle.hlfir_ops.specs.declared.op.Region.{out-Region, out-roll-Region}
+use Rattle.hlfir_ops.specs.Trees.{region_of}
 use Rattle.hlfir_ops.specs.Numbers.{numbers_of}
 use Rattle.hlfir_ops.specs.RulesValues.{Value, Declares, value_at, rank_of, is_allocatable, is_allocatable_declare}
-use Rattle.hlfir_ops.specs.RulesRegions.{is_yield, is_yield_element, last_of, parts_of, parts}
+use Rattle.hlfir_ops.specs.RulesRegions.{parts}
 use Rattle.hlfir_ops.specs.RulesForms.{has_pairs}
 use Rattle.lower_assign.specs.declared.operand.Operand.{Operand}
 use Rattle.lower_assign.specs.Scopes.{Scope, inside}
-use Rattle.lower_assign.specs.Lowerings.{Lowering, done, ◌>>=◌, acting, statement_of}
+use Rattle.lower_assign.specs.Lowerings.{Lowering, done, ◌>>=◌, statement_of}
 use Rattle.lower_assign.specs.Operations.{constant}
 use Rattle.lower_assign.specs.References.{declare_of}
 use Rattle.lower_assign.specs.Values.{value}
 use Rattle.lower_assign.specs.Statements.{yielded, all_yielded, left, item, is_whole_allocatable, assignment, bounds_of, all_bounds, allocation, deallocation, reading}
-use Rattle.small_laws.proofs.NoFaults.{none_first, none_after, not_broken, impossible}
 use Rattle.small_laws.proofs.Tables as tables
-use Rattle.form_laws.proofs.Passing.{both}
 use Rattle.kind_laws.proofs.TypeFacts.{same_type, no_type}
 use Rattle.kind_laws.proofs.ScopesFound.{allocatables_are_found}
+use Rattle.kind_laws.proofs.NoFaults.{none_first, none_after, not_broken, impossible}
+use Rattle.kind_laws.proofs.Ends.{parts-all_yielded}
 use Rattle.form_laws.proofs.Entries.{allocatable_kind}
 use Rattle.form_laws.proofs.Stages.{Stage, stage-region}
 use Rattle.form_laws.proofs.Regions.{Walks, walks-done, walks-then, walks-scoped, walks-yielded, walks-all_yielded, walks-statement}
 use Rattle.form_laws.proofs.Sides.{walks-side, walks-one, walks-left, walks-left_of}
-
--- ---- what a region yields
-
-last_one : (xs : List Op) (y : Op) → last_of (xs ++ (y ∷ [])) ≡ Some y
-last_one xs y = ap (slice_get (xs ++ (y ∷ []))) (let e : length (xs ++ (y ∷ [])) - 1 ≡ length xs = omega (arith, length-append xs (y ∷ [])) in e) ∙ get_one xs
-  where
-    get_one : (zs : List Op) → slice_get (zs ++ (y ∷ [])) (length zs) ≡ Some y
-    get_one [] = refl
-    get_one (z ∷ zs) = get_one zs
-
-parts-yielded : (p : Lowering (List ValueId)) (s : Scope) (n : ℕ) → parts (all_yielded p s n).ops ≡ (p s n).made
-unfolding ◌>>=◌ acting
-parts-yielded p s n =
-    let os = (p s n).made in
-    let fields : Op-F Op Region = record { what = what.Yield; line = s.line; operands = os; kind = None; regions = [] } in
-    ap parts_of (last_one (p s n).ops (op_of what.Yield s.line os None [])) ∙ ap (λ f. if is_yield f.what || is_yield_element f.what then f.operands else []) (out-roll-Op fields)
 
 -- ---- bounds
 
@@ -84,11 +65,7 @@ allocated_rank line (Some Index) e count h f is g = absurd (true≢false (not_br
 allocated_rank line (Some Barred) e count h f is g = no_type (entry_type e) is
 
 paired : (n rank : ℕ) → n ≡ rank * 2 → (not (n % 2 == 0) || n == rank * 2) ≡ true
-paired n rank h = let same : (n == rank * 2) ≡ true = grind (arith, h) in either (not (n % 2 == 0)) (n == rank * 2) same
-  where
-    either : (a b : Bool) → b ≡ true → (a || b) ≡ true
-    either true b h = refl
-    either false b h = h
+paired n rank h = let same : (n == rank * 2) ≡ true = grind (arith, h) in or_right (not (n % 2 == 0)) (n == rank * 2) same
 
 module _ (vs : List Value) (t : List Row) (s : Scope) (h : Stage vs t s) where
   -- ---- assignment
@@ -122,7 +99,7 @@ module _ (vs : List Value) (t : List Row) (s : Scope) (h : Stage vs t s) where
     unfolding deallocation
     walks-deallocation also =
         walks-scoped vs s (λ c. statement_of (what.Freemem also) line ((declare_of c.names x).value ∷ []) [])
-        (walks-statement vs (what.Freemem also) line ((declare_of s.names x).value ∷ []) [] s refl (λ n. both (is_allocatable_declare (value_at vs (declare_of s.names x).value)) true is_declare refl) tt)
+        (walks-statement vs (what.Freemem also) line ((declare_of s.names x).value ∷ []) [] s refl (λ n. and_from (is_allocatable_declare (value_at vs (declare_of s.names x).value)) true is_declare refl) tt)
 
     pairs : (count n : ℕ) → is_other_bounds (standing_of t x) count ≡ false → n ≡ count * 2 → has_pairs (value_at vs declare.value) n ≡ true
     pairs count n g is =
@@ -159,9 +136,9 @@ module _ (vs : List Value) (t : List Row) (s : Scope) (h : Stage vs t s) where
       let c = inside w line 0 n s in
       let ops = (region c (n + 0)).ops in
       let many : length (parts (out-Region (region_of ops)).ops) ≡ length p.shape * 2 =
-      ap (λ r. length (parts r.ops)) (out-roll-Region (record { ops = ops })) ∙ (ap length (parts-yielded (all_bounds p.shape) c (n + 0)) ∙ bounds-long c (n + 0) t line p.shape (none_after _ _ f)) in
-      both (is_allocatable_declare (value_at vs declare) && has_pairs (value_at vs declare) (length (parts (out-Region (region_of ops)).ops))) true
-      (both (is_allocatable_declare (value_at vs declare)) (has_pairs (value_at vs declare) (length (parts (out-Region (region_of ops)).ops))) (is_declare line p.name named) (pairs line p.name named (length p.shape) (length (parts (out-Region (region_of ops)).ops)) (not_broken _ _ _ (none_after _ _ (none_first _ _ f))) many)) refl) (
+      ap (λ r. length (parts r.ops)) (out-roll-Region (record { ops = ops })) ∙ (ap length (parts-all_yielded (all_bounds p.shape) c (n + 0)) ∙ bounds-long c (n + 0) t line p.shape (none_after _ _ f)) in
+      and_from (is_allocatable_declare (value_at vs declare) && has_pairs (value_at vs declare) (length (parts (out-Region (region_of ops)).ops))) true
+      (and_from (is_allocatable_declare (value_at vs declare)) (has_pairs (value_at vs declare) (length (parts (out-Region (region_of ops)).ops))) (is_declare line p.name named) (pairs line p.name named (length p.shape) (length (parts (out-Region (region_of ops)).ops)) (not_broken _ _ _ (none_after _ _ (none_first _ _ f))) many)) refl) (
         (λ m names. let c = inside w line 0 m s in walks-all_yielded vs c (all_bounds p.shape) (bounds-walk c (stage-region vs t s h w line 0 m refl names) line p.shape g.1 (none_after _ _ f))),
         tt,
       ))

@@ -1,11 +1,10 @@
 -- Operands that have the types of their expressions, and operations on these.
-use Rattle.std.proofs.Common.{◌≡◌, refl, sym, ap, ◌∙◌, subst, ℕ, ◌==◌, ◌⊎◌, inl, inr, Bool, true, false, not, List, [], ◌∷◌, Some, arith}
+use Rattle.std.proofs.Common.{◌≡◌, refl, sym, ap, ◌∙◌, subst, ℕ, ◌==◌, ◌⊎◌, inl, inr, Bool, true, false, List, [], ◌∷◌, arith}
 use Rattle.std.specs.Prelude.{max}
-use Rattle.std.proofs.lemmas.Bool.{true≢false}
 use Rattle.ws_base.specs.declared.op.BinOp.{BinOp}
 use Rattle.ws_base.specs.declared.op.BinOp.TheVariants as bin
 use Rattle.ws_types.specs.declared.types.Typed.{Typed}
-use Rattle.ws_types.specs.Operations.{is_other_type, differ, joins_truths}
+use Rattle.ws_types.specs.Operations.{differ, joins_truths}
 use Rattle.hlfir_ops.specs.declared.kinds.Elem.{Elem}
 use Rattle.hlfir_ops.specs.declared.kinds.Elem.TheVariants.{I1}
 use Rattle.hlfir_ops.specs.declared.what.ValueUnary.{ValueUnary}
@@ -21,19 +20,6 @@ use Rattle.kind_laws.specs.Found.{Holds}
 use Rattle.form_laws.proofs.Operands.{Stands}
 use Rattle.form_laws.proofs.Elementals.{HasRank, Conform}
 use Rattle.form_laws.proofs.Operations.{takes-unary, takes-binary, takes-select, OfOperation, operation-made, agree}
-
--- it has a type, which is the right one
-pub not_other : (truth : Bool) (ty : Typed) → is_other_type truth (Some ty) ≡ false → ty.truth ≡ truth
-not_other true ty h = same ty.truth h
-  where
-    same : (b : Bool) → not b ≡ false → b ≡ true
-    same true h = refl
-    same false h = absurd (true≢false h)
-not_other false ty h = same ty.truth h
-  where
-    same : (b : Bool) → not (not b) ≡ false → b ≡ false
-    same true h = absurd (true≢false h)
-    same false h = refl
 
 pub operand_elem-is : (op : BinOp) → elem (joins_truths op) ≡ operand_elem (binary_of op)
 operand_elem-is bin.Add = refl
@@ -53,12 +39,6 @@ operand_elem-is bin.Eqv = refl
 operand_elem-is bin.Neqv = refl
 
 -- ---- ranks of several operands
-
-pub low_left : (r q : ℕ) → max r q ≡ 0 → r ≡ 0
-low_left r q h = omega (arith, h)
-
-pub low_right : (r q : ℕ) → max r q ≡ 0 → q ≡ 0
-low_right r q h = omega (arith, h)
 
 is_zero : (r : ℕ) → r ≡ 0 → (r == 0) ≡ true
 is_zero r h = ap (λ k. k == 0) h

@@ -28,10 +28,12 @@ use Rattle.lower_assign.specs.References.{loaded, named, subscript_of, bound, in
 use Rattle.lower_assign.specs.Values.{value, values, nested, subscripts, given_or, part_of}
 use Rattle.kind_laws.specs.Found.{Holds}
 use Rattle.kind_laws.proofs.TypedExpressions.{types_are_known}
-use Rattle.small_laws.proofs.NoFaults.{none_first, none_after, allowed, right_false}
+use Rattle.kind_laws.proofs.Held.{held-first, held-rest}
+use Rattle.kind_laws.proofs.NoFaults.{none_first, none_after, allowed, right_false}
+use Rattle.kind_laws.proofs.TypesTold.{scalar_says}
 use Rattle.form_laws.proofs.Operands.{IsFound}
 use Rattle.form_laws.proofs.Typed.{IsOf}
-use Rattle.form_laws.proofs.Walking.{Good, then-first, then-second, then-good, Leaves, then-leaves, done-leaves}
+use Rattle.form_laws.proofs.Walking.{Good, then-good, Leaves, then-leaves, done-leaves}
 use Rattle.form_laws.proofs.References.{loaded-good, named-good, constant-good, truth-good}
 use Rattle.form_laws.proofs.Parts.{SubFits, subscript-fits, integer-of}
 use Rattle.form_laws.proofs.Calls.{call-good}
@@ -39,7 +41,7 @@ use Rattle.form_laws.proofs.Inquiries.{inquiry-good}
 use Rattle.form_laws.proofs.Wholes.{parentheses-good}
 use Rattle.form_laws.proofs.Folded.{is_right, chosen, not_chosen, folded-good, call_by-good, IsSoFar, so_far-good, joined-leaves}
 use Rattle.form_laws.proofs.Stages.{Stage}
-use Rattle.form_laws.proofs.Says.{small_number, scalar_says, subscript_says, unary_says, nested_says, no_wide}
+use Rattle.form_laws.proofs.Says.{small_number, subscript_says, unary_says, nested_says, no_wide}
 use Rattle.form_laws.proofs.Lowered as lowered
 
 module _ (vs : List Value) (t : List Row) (s : Scope) (stage : Stage vs t s) (inside : Bool) (line : ℕ) where
@@ -65,7 +67,7 @@ module _ (vs : List Value) (t : List Row) (s : Scope) (stage : Stage vs t s) (in
     value-good (Part' x _ subs) n h f held =
         let p = part_of x (λ r. subscripts r 1 subs) in
         let part = lowered.part-lowered vs t s stage inside line x subs n h.1 (none_first _ _ (none_first _ _ f)) (none_after _ _ f)
-        (λ r k at reference many under. subs-leave r at reference subs 1 k (omega arith) (omega (arith, many)) h.2 (none_after _ _ (none_first _ _ f)) under) (then-first vs p loaded s n held) in
+        (λ r k at reference many under. subs-leave r at reference subs 1 k (omega arith) (omega (arith, many)) h.2 (none_after _ _ (none_first _ _ f)) under) (held-first vs p loaded s n held) in
         then-good vs p loaded s n part.fit (loaded-good vs (p s n).made s (n + numbers_of (p s n).ops) part.found part.loadable)
     value-good (Call' w _ es) n h f held =
         let right = is_right (takes w (listed es)) line refusal.Unsupported _ f in
@@ -78,22 +80,22 @@ module _ (vs : List Value) (t : List Row) (s : Scope) (stage : Stage vs t s) (in
         (λ is under. inquiry-good vs t s stage.knows stage.scope line n w (listed es) is right (chosen (is_inquiry w) _ _ inner is) under)
         (λ none other under.
         let both = not_chosen (is_inquiry w) _ _ inner other in
-        let vals = values-leave es n h.1 (none_first _ _ both) (then-first vs (values es) (call_on w) s n under) in
+        let vals = values-leave es n h.1 (none_first _ _ both) (held-first vs (values es) (call_on w) s n under) in
         let m = n + numbers_of (values es s n).ops in
         then-good vs (values es) (call_on w) s n vals.fit
         (call-good vs line inside s m w (listed es) vals.holds.tys (values es s n).made vals.holds.many right other none vals.holds.are
-        (ap (call_faults line inside w) (sym (vals.holds.known no_arguments)) ∙ none_after _ _ both) (then-second vs (values es) (call_on w) s n under))) held
+        (ap (call_faults line inside w) (sym (vals.holds.known no_arguments)) ∙ none_after _ _ both) (held-rest vs (values es) (call_on w) s n under))) held
     value-good (Vector' _ es) n h f held =
-        let vals = values-leave es n h.1 (none_first _ _ f) (then-first vs (values es) vector s n held) in
+        let vals = values-leave es n h.1 (none_first _ _ f) (held-first vs (values es) vector s n held) in
         then-good vs (values es) vector s n vals.fit
         (lowered.vector-lowered vs t s stage inside line es (values es s n).made (n + numbers_of (values es s n).ops) h.0 vals.holds (none_after _ _ f))
     value-good (paren e) n h f held = folded-good vs s n (paren e) (value e >>= in_parentheses) stage.constants (λ under.
-        let here = then-first vs (value e) in_parentheses s n under in
+        let here = held-first vs (value e) in_parentheses s n under in
         let good = value-good e n h f here in
         let ty = types_are_known t inside line e f in
         then-good vs (value e) in_parentheses s n good.fit (parentheses-good vs s (n + numbers_of (value e s n).ops) (value e s n).made (value-is e n ty.0 h good f ty.1 here).stands)) held
     value-good (unary op e) n h f held = folded-good vs s n (unary op e) (value e >>= unary_operation op) stage.constants (λ under.
-        let here = then-first vs (value e) (unary_operation op) s n under in
+        let here = held-first vs (value e) (unary_operation op) s n under in
         let g = none_first _ _ f in
         let good = value-good e n h g here in
         let ty = types_are_known t inside line e g in
@@ -101,14 +103,14 @@ module _ (vs : List Value) (t : List Row) (s : Scope) (stage : Stage vs t s) (in
         let m = n + numbers_of (value e s n).ops in
         then-good vs (value e) (unary_operation op) s n good.fit
         (lowered.unary-lowered vs t s stage inside line op ty.0 x m (value-is e n ty.0 h good g ty.1 here)
-        (unary_says line op ty.0 (ap (unary_faults line op) (sym ty.1) ∙ none_after _ _ f)) (then-second vs (value e) (unary_operation op) s n under))) held
+        (unary_says line op ty.0 (ap (unary_faults line op) (sym ty.1) ∙ none_after _ _ f)) (held-rest vs (value e) (unary_operation op) s n under))) held
     value-good (binary op a b) n h f held = folded-good vs s n (binary op a b) (value a >>= (λ x. value b >>= binary_operation (binary_of op) x)) stage.constants (λ under.
         let q : Operand → Lowering Operand = λ x. value b >>= binary_operation (binary_of op) x in
-        let here = then-first vs (value a) q s n under in
+        let here = held-first vs (value a) q s n under in
         let x = (value a s n).made in
         let m = n + numbers_of (value a s n).ops in
-        let after = then-second vs (value a) q s n under in
-        let next = then-first vs (value b) (binary_operation (binary_of op) x) s m after in
+        let after = held-rest vs (value a) q s n under in
+        let next = held-first vs (value b) (binary_operation (binary_of op) x) s m after in
         let fa = none_first _ _ (none_first _ _ f) in
         let fb = none_after _ _ (none_first _ _ f) in
         let ga = value-good a n h.0 fa here in
@@ -119,20 +121,20 @@ module _ (vs : List Value) (t : List Row) (s : Scope) (stage : Stage vs t s) (in
         (lowered.binary-lowered vs t s stage inside line op ty.0 tz.0 x (value b s m).made (m + numbers_of (value b s m).ops)
         (value-is a n ty.0 h.0 ga fa ty.1 here) (value-is b m tz.0 h.1 gb fb tz.1 next)
         (ap (λ o. binary_faults line op o (Some tz.0)) (sym ty.1) ∙ (ap (binary_faults line op (typed t inside a)) (sym tz.1) ∙ none_after _ _ f))
-        (then-second vs (value b) (binary_operation (binary_of op) x) s m after)))) held
+        (held-rest vs (value b) (binary_operation (binary_of op) x) s m after)))) held
 
     values-leave : {m : Count} (es : Exprs m) (n : ℕ) → AreExprs es → all_faults t inside line es ≡ [] → Holds vs n (values es s n).ops → Leaves vs (AreLowered es) (values es s n)
     values-leave end_exprs n h f held = done-leaves vs (AreLowered end_exprs) [] s n (record { tys = []; are = tt; known = λ a. refl; many = refl })
     values-leave (more_exprs e es) n h f held =
         let q : Operand → Lowering (List Operand) = λ x. values es >>= (λ xs. done (x ∷ xs)) in
-        let here = then-first vs (value e) q s n held in
+        let here = held-first vs (value e) q s n held in
         let g = none_first _ _ f in
         let good = value-good e n h.0 g here in
         let ty = types_are_known t inside line e g in
         let x = (value e s n).made in
         let m = n + numbers_of (value e s n).ops in
         let last : List Operand → Lowering (List Operand) = λ xs. done (x ∷ xs) in
-        let more = values-leave es m h.1 (none_after _ _ f) (then-first vs (values es) last s m (then-second vs (value e) q s n held)) in
+        let more = values-leave es m h.1 (none_after _ _ f) (held-first vs (values es) last s m (held-rest vs (value e) q s n held)) in
         let xs = (values es s m).made in
         then-leaves vs (AreLowered (more_exprs e es)) (value e) q s n good.fit (then-leaves vs (AreLowered (more_exprs e es)) (values es) last s m more.fit
         (done-leaves vs (AreLowered (more_exprs e es)) (x ∷ xs) s (m + numbers_of (values es s m).ops)
@@ -143,23 +145,23 @@ module _ (vs : List Value) (t : List Row) (s : Scope) (stage : Stage vs t s) (in
     nested-good op takes_is gives_is a before end_exprs n so_far h f truths mixed held = so_far-good vs s n before a.rank so_far
     nested-good op takes_is gives_is a before (more_exprs e es) n so_far h f truths mixed held =
         let q : Operand → Lowering Operand = λ y. joined op before y >>= (λ z. nested op (Some z) es) in
-        let here = then-first vs (value e) q s n held in
+        let here = held-first vs (value e) q s n held in
         let g = none_first _ _ f in
         let good = value-good e n h.0 g here in
         let ty = types_are_known t inside line e g in
         let y = (value e s n).made in
         let m = n + numbers_of (value e s n).ops in
-        let after = then-second vs (value e) q s n held in
+        let after = held-rest vs (value e) q s n held in
         let last : Operand → Lowering Operand = λ z. nested op (Some z) es in
         let b = with_argument a (Some ty.0) in
         let truths_b : (arguments t inside b es).truths ≡ false = ap (λ o. (arguments t inside (with_argument a o) es).truths) (sym ty.1) ∙ truths in
         let mixed_b : (arguments t inside b es).mixed ≡ false = ap (λ o. (arguments t inside (with_argument a o) es).mixed) (sym ty.1) ∙ mixed in
         let number = right_false a.truths ty.0.truth (lowered.kept_truths vs t s stage inside line es b truths_b) in
         let ranks = right_false a.mixed (differ a.rank ty.0.rank) (lowered.kept_mixed vs t s stage inside line es b mixed_b) in
-        let one = joined-leaves vs s m op before a.rank ty.0 y takes_is gives_is so_far (value-is e n ty.0 h.0 good g ty.1 here) number ranks (then-first vs (joined op before y) last s m after) in
+        let one = joined-leaves vs s m op before a.rank ty.0 y takes_is gives_is so_far (value-is e n ty.0 h.0 good g ty.1 here) number ranks (held-first vs (joined op before y) last s m after) in
         let z = (joined op before y s m).made in
         then-good vs (value e) q s n good.fit (then-good vs (joined op before y) last s m one.fit
-        (nested-good op takes_is gives_is b (Some z) es (m + numbers_of (joined op before y s m).ops) one.holds h.1 (none_after _ _ f) truths_b mixed_b (then-second vs (joined op before y) last s m after)))
+        (nested-good op takes_is gives_is b (Some z) es (m + numbers_of (joined op before y s m).ops) one.holds h.1 (none_after _ _ f) truths_b mixed_b (held-rest vs (joined op before y) last s m after)))
 
     pub subs-leave : {m : Count} (r : Operand) → IsFound vs r → is_reference (Some r.kind) ≡ true → (subs : Subs m) (dim n : ℕ) → 1 ≤ dim → dim + how_many subs ≡ suc (rank_of r.kind) → AreSubs subs → subs_faults t inside line subs ≡ [] →
         Holds vs n (subscripts r dim subs s n).ops → Leaves vs (Subscripted (how_many subs)) (subscripts r dim subs s n)
@@ -168,7 +170,7 @@ module _ (vs : List Value) (t : List Row) (s : Scope) (stage : Stage vs t s) (in
         lowered.subs-more vs t s stage inside line r dim (sub.One e) subs n
         (λ under.
         let q : Operand → Lowering Subscript = λ x. done (subscript_of x) in
-        let here = then-first vs (value e) q s n under in
+        let here = held-first vs (value e) q s n under in
         let g = none_first _ _ (none_first _ _ f) in
         let good = value-good e n h.0 g here in
         let ty = types_are_known t inside line e g in

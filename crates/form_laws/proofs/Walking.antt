@@ -1,13 +1,11 @@
 -- Forms through one lowering after another.
-use Rattle.std.proofs.Common.{◌≡◌, refl, ℕ, ◌+◌, Bool, false, List}
+use Rattle.std.proofs.Common.{ℕ, ◌+◌, false, List}
 use Rattle.hlfir_ops.specs.Numbers.{numbers_of}
 use Rattle.hlfir_ops.specs.RulesValues.{Value}
 use Rattle.lower_assign.specs.declared.operand.Operand.{Operand}
 use Rattle.lower_assign.specs.Scopes.{Scope}
 use Rattle.lower_assign.specs.Lowerings.{Lowering, Lowered, done, ◌>>=◌}
-use Rattle.kind_laws.specs.Found.{Holds}
 use Rattle.form_laws.proofs.Passing.{AreFit, fit-none, fit-append}
-use Rattle.kind_laws.proofs.Finding.{holds_first, holds_after}
 use Rattle.form_laws.proofs.Operands.{IsSolid, Made}
 
 module _ (vs : List Value) where
@@ -19,41 +17,13 @@ module _ (vs : List Value) where
   pub good-made : (l : Lowered Operand) → Made vs false l → Good l
   good-made l h = record { fit = h.fit; solid = h.stands.solid }
 
-  module _ {A B : Type 0} (p : Lowering A) (q : A → Lowering B) (s : Scope) (n : ℕ) where
-    abbrev pub after : ℕ
-    after = n + numbers_of (p s n).ops
-
-    pub then-first : Holds vs n ((p >>= q) s n).ops → Holds vs n (p s n).ops
-    unfolding ◌>>=◌
-    then-first h = holds_first vs n (p s n).ops (q (p s n).made s after).ops h
-
-    pub then-second : Holds vs n ((p >>= q) s n).ops → Holds vs after (q (p s n).made s after).ops
-    unfolding ◌>>=◌
-    then-second h = holds_after vs n (p s n).ops (q (p s n).made s after).ops h
-
-    pub then-fit : (b : Bool) → AreFit vs b (p s n).ops → AreFit vs b (q (p s n).made s after).ops → AreFit vs b ((p >>= q) s n).ops
-    unfolding ◌>>=◌
-    then-fit b h g = fit-append vs b (p s n).ops (q (p s n).made s after).ops h g
-
-    pub then-made : ((p >>= q) s n).made ≡ (q (p s n).made s after).made
-    unfolding ◌>>=◌
-    then-made = refl
-
   pub then-good : {A : Type 0} (p : Lowering A) (q : A → Lowering Operand) (s : Scope) (n : ℕ) → AreFit vs false (p s n).ops → Good (q (p s n).made s (n + numbers_of (p s n).ops)) → Good ((p >>= q) s n)
   unfolding ◌>>=◌
   then-good p q s n h g = record { fit = fit-append vs false (p s n).ops (q (p s n).made s (n + numbers_of (p s n).ops)).ops h g.fit; solid = g.solid }
 
-  pub done-fit : {A : Type 0} (b : Bool) (x : A) (s : Scope) (n : ℕ) → AreFit vs b (done x s n).ops
-  unfolding done
-  done-fit b x s n = fit-none vs b
-
   pub done-good : (x : Operand) (s : Scope) (n : ℕ) → IsSolid x.kind → Good (done x s n)
   unfolding done
   done-good x s n h = record { fit = fit-none vs false; solid = h }
-
-  pub done-made : {A : Type 0} (x : A) (s : Scope) (n : ℕ) → (done x s n).made ≡ x
-  unfolding done
-  done-made x s n = refl
 
   -- ---- what any lowering leaves
 

@@ -1,5 +1,6 @@
 -- Values in parentheses.
 use Rattle.std.proofs.Common.{◌≡◌, refl, ap, ◌∙◌, ℕ, ◌==◌, true, false, ◌&&◌, List, [], ◌∷◌, Some, arith}
+use Rattle.std.proofs.lemmas.Bool.{and_from}
 use Rattle.hlfir_ops.specs.declared.kinds.Elem.{Elem}
 use Rattle.hlfir_ops.specs.declared.kinds.ValueKind.{ValueKind}
 use Rattle.hlfir_ops.specs.declared.kinds.ValueKind.TheVariants as kind
@@ -10,9 +11,10 @@ use Rattle.lower_assign.specs.declared.operand.Operand.{Operand}
 use Rattle.lower_assign.specs.Scopes.{Scope}
 use Rattle.lower_assign.specs.Lowerings.{giving}
 use Rattle.lower_assign.specs.Operations.{in_parentheses, value_of_whole, as_expr}
-use Rattle.form_laws.proofs.Passing.{both, fit-op}
-use Rattle.form_laws.proofs.Operands.{same_elem-same, IsSolid, Stands}
+use Rattle.form_laws.proofs.Passing.{fit-op}
+use Rattle.form_laws.proofs.Operands.{IsSolid, Stands}
 use Rattle.form_laws.proofs.Walking.{Good, done-good}
+use Rattle.kind_laws.proofs.TypesTold.{same_elem-same}
 
 module _ (vs : List Value) (s : Scope) (n : ℕ) (x : Operand) (h : Stands vs x) where
   whole-good : (e : Elem) (rank : ℕ) → is_reference (Some x.kind) ≡ true → elem_of x.kind ≡ e → rank_of x.kind ≡ rank → (rank == 0) ≡ false → Good vs (as_expr x e rank s n)
@@ -20,8 +22,8 @@ module _ (vs : List Value) (s : Scope) (n : ℕ) (x : Operand) (h : Stands vs x)
   whole-good e rank reference is same some = record {
     fit = fit-op vs false what.AsExpr s.line (x.value ∷ []) (Some (kind.Array e rank)) []
         (ap (λ k. is_reference k && is_array_of k (rank_of_kind k) (Some (kind.Array e rank))) h.found
-        ∙ both (is_reference (Some x.kind)) (same_elem (elem_of x.kind) e && rank == rank_of x.kind) reference
-        (both (same_elem (elem_of x.kind) e) (rank == rank_of x.kind) (ap (λ f. same_elem f e) is ∙ same_elem-same e) (grind (arith, same)))) tt;
+        ∙ and_from (is_reference (Some x.kind)) (same_elem (elem_of x.kind) e && rank == rank_of x.kind) reference
+        (and_from (same_elem (elem_of x.kind) e) (rank == rank_of x.kind) (ap (λ f. same_elem f e) is ∙ same_elem-same e) (grind (arith, same)))) tt;
     solid = some;
   }
 

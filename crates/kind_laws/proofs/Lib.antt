@@ -1,4 +1,8 @@
 pub mod NoFaults
+pub mod Grammar
+pub mod Faultless
+pub mod TypesTold
+pub mod Ends
 pub mod Sited
 pub mod TypesKnown
 pub mod TypedExpressions
@@ -18,3 +22,5 @@ pub mod ExpressionsFound
 pub mod ScopesKnown
 pub mod ScopesFound
 pub mod Sides
+pub mod Held
+pub mod DeclaresFound

@@ -1,6 +1,7 @@
 -- The bodies of all statements of a lowered source hold what they may.
 use Rattle.std.proofs.Common.{◌≡◌, refl, sym, ap, ◌∙◌, ℕ, suc, ◌+◌, Bool, true, false, not, ◌&&◌, List, [], ◌∷◌, Option, Some, None, nat_lt, true≢false}
 use Rattle.std.specs.Prelude.{⊤}
+use Rattle.std.proofs.lemmas.Bool.{and_from, and_parts}
 use Rattle.ws_base.specs.declared.name.Name.{Name}
 use Rattle.ws_tree.specs.declared.expr.Expr.{Expr}
 use Rattle.ws_tree.specs.declared.stmt.Part.{Part}
@@ -20,7 +21,7 @@ use Rattle.lower_assign.specs.References.{declare_of}
 use Rattle.lower_assign.specs.Values.{value}
 use Rattle.lower_assign.specs.Statements.{yielded, all_yielded, left, item, is_whole_allocatable, assignment, all_bounds, allocation, deallocation, reading}
 use Rattle.lower_constructs.specs.Modules.{forall_mask, declaration}
-use Rattle.place_laws.proofs.Printed.{both, first_true, second_true, all-weaker, parts-op_of, Everywhere}
+use Rattle.place_laws.proofs.Printed.{all-weaker, parts-op_of, Everywhere}
 use Rattle.place_laws.proofs.Lowered.{Always, EachAlways, makes-done, makes-giving, makes-statement, regions-always, always-then, always-scoped}
 use Rattle.place_laws.proofs.Plain.{is_plain, plain, Plain}
 use Rattle.place_laws.proofs.PlainValues.{plain-value}
@@ -41,15 +42,15 @@ module _ (vs : List Value) where
 
   pub where_part : (op : Op) → bodies op ≡ true → where_of vs (out-Op op).what (out-Op op).regions ≡ true
   unfolding bodies
-  where_part op h = first_true (where_of vs (out-Op op).what (out-Op op).regions) (forall_of vs (out-Op op).what (out-Op op).regions) h
+  where_part op h = (and_parts (where_of vs (out-Op op).what (out-Op op).regions) (forall_of vs (out-Op op).what (out-Op op).regions) h).0
 
   pub forall_part : (op : Op) → bodies op ≡ true → forall_of vs (out-Op op).what (out-Op op).regions ≡ true
   unfolding bodies
-  forall_part op h = second_true (where_of vs (out-Op op).what (out-Op op).regions) (forall_of vs (out-Op op).what (out-Op op).regions) h
+  forall_part op h = (and_parts (where_of vs (out-Op op).what (out-Op op).regions) (forall_of vs (out-Op op).what (out-Op op).regions) h).1
 
   pub bodies-op : (w : What) (line : ℕ) (operands : List ValueId) (k : Option ValueKind) (regions : List Region) → where_of vs w regions ≡ true → forall_of vs w regions ≡ true → bodies (op_of w line operands k regions) ≡ true
   unfolding bodies
-  bodies-op w line operands k regions h g = ap (λ f. where_of vs f.what f.regions && forall_of vs f.what f.regions) (parts-op_of w line operands k regions) ∙ both (where_of vs w regions) (forall_of vs w regions) h g
+  bodies-op w line operands k regions h g = ap (λ f. where_of vs f.what f.regions && forall_of vs f.what f.regions) (parts-op_of w line operands k regions) ∙ and_from (where_of vs w regions) (forall_of vs w regions) h g
 
   free-where : (w : What) (regions : List Region) → is_free w ≡ true → where_of vs w regions ≡ true
   unfolding where_of
@@ -76,7 +77,7 @@ module _ (vs : List Value) where
   plain-bodies op h =
       let w = (out-Op op).what in
       let free = plain-free w h in
-      both (where_of vs w (out-Op op).regions) (forall_of vs w (out-Op op).regions) (free-where w (out-Op op).regions free) (free-forall w (out-Op op).regions free)
+      and_from (where_of vs w (out-Op op).regions) (forall_of vs w (out-Op op).regions) (free-where w (out-Op op).regions free) (free-forall w (out-Op op).regions free)
 
   pub plains : (ops : List Op) → Everywhere plain ops → Everywhere bodies ops
   plains ops h = all-weaker plain bodies (order_of ops) plain-bodies h

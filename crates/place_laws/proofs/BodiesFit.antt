@@ -3,7 +3,6 @@ use Rattle.std.proofs.Common.{◌≡◌, refl, sym, ap, ◌∙◌, subst, ℕ, �
 use Rattle.std.proofs.lemmas.List.Elements.{All-head, All-tail}
 use mathlib.Core.Former.{Count}
 use Rattle.ws_base.specs.declared.name.Name.{Name}
-use Rattle.ws_base.specs.declared.refusal.RefusalKind.TheVariants as kind
 use Rattle.ws_tree.specs.declared.expr.Expr.{Expr}
 use Rattle.ws_tree.specs.declared.stmt.Body.{Body}
 use Rattle.ws_tree.specs.declared.stmt.Body.TheVariants.{Assign, Masked', Forall', Loop', Allocate, Deallocate, Read, Shared', Unsupported, TooDeep as TooDeep'}
@@ -20,7 +19,7 @@ use Rattle.ws_types.specs.Names.{standing_of}
 use Rattle.ws_types.specs.Expressions.{typed, faults}
 use Rattle.ws_sema.specs.declared.within.Within.{Within}
 use Rattle.ws_sema.specs.declared.within.Within.TheVariants as within
-use Rattle.ws_sema.specs.Statements.{is_inside, is_masked, is_outside, header_faults, forall_mask_faults, forall_header_faults, loop_header_faults, loop_faults, serial_faults, enclosing_rank, where_mask_faults, under, mask_rank, mask_faults, with_active, else_mask_faults, else_control, block_faults, body_faults, else_faults, elses_faults, stmts_faults}
+use Rattle.ws_sema.specs.Statements.{header_faults, forall_mask_faults, loop_faults, enclosing_rank, under, mask_rank, mask_faults, with_active, else_mask_faults, else_control, block_faults, body_faults, elses_faults, stmts_faults}
 use Rattle.hlfir_ops.specs.declared.what.What.TheVariants as what
 use Rattle.hlfir_ops.specs.declared.op.Op.{Op}
 use Rattle.hlfir_ops.specs.Trees.{region_of}
@@ -30,7 +29,7 @@ use Rattle.hlfir_ops.specs.RulesStatements.{fits_forall}
 use Rattle.hlfir_ops.specs.RulesValues.{Value}
 use Rattle.kind_laws.specs.Standing.{Knows}
 use Rattle.kind_laws.specs.Found.{ScopeIsFound}
-use Rattle.kind_laws.proofs.NoFaults.{none_first, none_after, looked_into}
+use Rattle.kind_laws.proofs.NoFaults.{none_first, none_after}
 use Rattle.lower_assign.specs.Scopes.{inside}
 use Rattle.lower_assign.specs.Lowerings.{◌>>=◌, scoped, regions_from, statement_of}
 use Rattle.lower_assign.specs.References.{declare_of}
@@ -40,12 +39,12 @@ use Rattle.lower_constructs.specs.Lists.{mask_of}
 use Rattle.lower_constructs.specs.Modules.{triple, triples, forall_mask, third, elsewhere, statement, statements, elsewheres, statement_list}
 use Rattle.place_laws.proofs.Lowered.{makes-then, makes-statement, regions-none, regions-more}
 use Rattle.place_laws.proofs.PlainSides.{plain-all_yielded, plain-triple, plain-triples}
-use Rattle.place_laws.proofs.Held.{held-rest, held-statement}
+use Rattle.kind_laws.proofs.Held.{held-rest, held-statement}
 use Rattle.kind_laws.proofs.ScopesKnown.{forall_known, loop_known}
 use Rattle.kind_laws.proofs.ScopesFound.{inside_found}
-use Rattle.place_laws.proofs.Yields.{second-region}
-use Rattle.place_laws.proofs.MaskFacts.{allowed}
-use Rattle.place_laws.proofs.Constructs.{where_parts, else_parts, forall_parts, loop_block, shared_block}
+use Rattle.kind_laws.proofs.Grammar.{where_parts, else_parts, forall_parts, loop_parts, shared_parts}
+use Rattle.kind_laws.proofs.Faultless.{where_faultless, else_faultless, forall_faultless, loop_faultless, shared_faultless}
+use Rattle.kind_laws.proofs.Ends.{ops_in-second}
 use Rattle.place_laws.proofs.Keeping.{Keeps, keeps-done, keeps-then, keeps-region, keeps-where, keeps-elsewhere, elsewhere-is}
 use Rattle.place_laws.proofs.WhereBodies.{where-fits, elsewhere-fits}
 use Rattle.place_laws.proofs.ForallBodies.{forall-fits}
@@ -96,7 +95,7 @@ module _ (vs : List Value) where
       let known : Knows (inner t is) d = forall_known t s is line line m header k in
       let scope : ScopeIsFound vs d = inside_found vs s w line 1 m after.0 there in
       let held = after.1 in
-      let fits = ap (fits_forall vs) (second-region (region_of (p c i).ops) (q d j).ops []) ∙ forall-fits vs place room (inner t is) line mask block d j g a f inside_f known scope held in
+      let fits = ap (fits_forall vs) (ops_in-second (region_of (p c i).ops) (q d j).ops []) ∙ forall-fits vs place room (inner t is) line mask block d j g a f inside_f known scope held in
       makes-statement T s n w line [] ps (bodies-op vs w line [] None (regions_from w line 0 (n + 0) ps s) refl fits)
       (regions-more T s (n + 0) w line 0 p (q ∷ []) (free-plain vs p (plain-all_yielded (triples is) (plain-triples is)) c i)
       (regions-more T s m w line 1 q []
@@ -135,30 +134,21 @@ module _ (vs : List Value) where
     keeps-body place room t w line (Assign l e) g f = λ s n k there h. free-assignment vs line l e s n
     keeps-body place room t w line (Masked' mask c block d rest) g f =
         let parts = where_parts place room line mask c block d rest g in
-        let inside = looked_into (is_inside w) line kind.Unsupported _ f in
-        let test = none_first (where_mask_faults t w line mask ++ block_faults t (under t line mask) block) (elses_faults t line (mask_rank t mask) rest) inside in
-        let mask_none = none_first (where_mask_faults t w line mask) (block_faults t (under t line mask) block) test in
-        let block_none = none_after (where_mask_faults t w line mask) (block_faults t (under t line mask) block) test in
-        let rest_none = none_after (where_mask_faults t w line mask ++ block_faults t (under t line mask) block) (elses_faults t line (mask_rank t mask) rest) inside in
-        masked-bodies parts.1.place parts.1.room parts.2.room t (enclosing_rank w) line mask block rest parts.0 parts.1.stands parts.2.stands mask_none block_none rest_none
-        (keeps-block parts.1.place parts.1.room t (under t line mask) block parts.1.stands block_none) (keeps-elses parts.2.room t line (mask_rank t mask) rest parts.2.stands rest_none)
+        let right = where_faultless t w line mask c block d rest f in
+        masked-bodies parts.1.place parts.1.room parts.2.room t (enclosing_rank w) line mask block rest parts.0 parts.1.stands parts.2.stands right.in_header right.in_block right.in_rest
+        (keeps-block parts.1.place parts.1.room t (under t line mask) block parts.1.stands right.in_block) (keeps-elses parts.2.room t line (mask_rank t mask) rest parts.2.stands right.in_rest)
     keeps-body place room t w line (Forall' is mask c block) g f =
         let parts = forall_parts place room line is mask c block g in
-        let inside = looked_into (is_masked w) line kind.Unsupported _ f in
-        let header = none_first (forall_header_faults t line is mask) (block_faults (inner t is) within.Forall block) inside in
-        let block_none = none_after (forall_header_faults t line is mask) (block_faults (inner t is) within.Forall block) inside in
-        forall-bodies parts.1.place parts.1.room t line is mask block parts.0.2 parts.1.stands (none_first (header_faults t (barred t is) line [] is) (forall_mask_faults (inner t is) line mask) header)
-        (none_after (header_faults t (barred t is) line [] is) (forall_mask_faults (inner t is) line mask) header) block_none
-        (keeps-block parts.1.place parts.1.room (inner t is) within.Forall block parts.1.stands block_none)
+        let right = forall_faultless t w line is mask c block f in
+        forall-bodies parts.1.place parts.1.room t line is mask block parts.0.2 parts.1.stands right.in_triplets right.in_mask right.in_block
+        (keeps-block parts.1.place parts.1.room (inner t is) within.Forall block parts.1.stands right.in_block)
     keeps-body place room t w line (Loop' x l u st c block) g f =
-        let parts = loop_block place room line x l u st c block g in
-        let inside = looked_into (is_masked w) line kind.Unsupported _ f in
-        let header = none_first (loop_header_faults t w line x l u st) (block_faults (with_active t x) w block) inside in
-        let variable = none_after (serial_faults w line) (loop_faults w line (standing_of t x)) (none_first _ _ (none_first _ _ (none_first _ _ header))) in
-        loop-bodies t w line x l u st block variable (keeps-block parts.place parts.room (with_active t x) w block parts.stands (none_after (loop_header_faults t w line x l u st) (block_faults (with_active t x) w block) inside))
+        let parts = (loop_parts place room line x l u st c block g).3 in
+        let right = loop_faultless t w line x l u st c block f in
+        loop-bodies t w line x l u st block right.in_variable (keeps-block parts.place parts.room (with_active t x) w block parts.stands right.in_block)
     keeps-body place room t w line (Shared' c block) g f =
-        let parts = shared_block place room line c block g in
-        shared-bodies t line block (keeps-block parts.place parts.room t within.Shared block parts.stands (allowed (is_outside w) line kind.Unsupported _ f))
+        let parts = shared_parts place room line c block g in
+        shared-bodies t line block (keeps-block parts.place parts.room t within.Shared block parts.stands (shared_faultless t w line c block f))
     keeps-body place room t w line (Allocate ps) g f = λ s n k there h. free-allocations vs line ps s n
     keeps-body place room t w line (Deallocate xs) g f = λ s n k there h. free-deallocations vs line xs s n
     keeps-body place room t w line (Read es) g f = λ s n k there h. free-readings vs line es s n
@@ -175,12 +165,10 @@ module _ (vs : List Value) where
     keeps-elses room t line first end_elses g f = keeps-done vs T t
     keeps-elses room t line first (more_elses (Else' own mask c block) rest) g f =
         let parts = else_parts room own mask c block rest g in
-        let here = none_first (else_faults t line first (Else' own mask c block)) (elses_faults t line first rest) f in
-        let mask_none = none_first (else_mask_faults t own first mask) (block_faults t (else_control t own line first mask) block) here in
-        let block_none = none_after (else_mask_faults t own first mask) (block_faults t (else_control t own line first mask) block) here in
+        let right = else_faultless t own line first mask c block rest f in
         keeps-then vs T t (elsewhere own mask (statements block)) (elsewheres rest)
-        (elsewhere-bodies in_where room t own line first mask block parts.0 parts.1 mask_none block_none (keeps-block in_where room t (else_control t own line first mask) block parts.1 block_none))
-        (keeps-elses parts.2.room t line first rest parts.2.stands (none_after (else_faults t line first (Else' own mask c block)) (elses_faults t line first rest) f))
+        (elsewhere-bodies in_where room t own line first mask block parts.0 parts.1 right.in_header right.in_block (keeps-block in_where room t (else_control t own line first mask) block parts.1 right.in_block))
+        (keeps-elses parts.2.room t line first rest parts.2.stands right.in_rest)
 
   -- a statement of the program that stands in no construct
   abbrev IsOuter : Stmt → Type 0

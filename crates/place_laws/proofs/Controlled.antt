@@ -15,7 +15,7 @@ use Rattle.ws_types.specs.declared.types.Typed.{Typed}
 use Rattle.ws_types.specs.declared.types.Row.{Row}
 use Rattle.ws_types.specs.Expressions.{typed, faults}
 use Rattle.ws_sema.specs.declared.within.Within.TheVariants as within
-use Rattle.ws_sema.specs.Statements.{left_faults, left_type, control_faults, assign_faults, rank_of as type_rank, mask_faults, where_mask_faults, under, mask_rank, else_mask_faults, else_control, block_faults, body_faults, else_faults, elses_faults}
+use Rattle.ws_sema.specs.Statements.{left_faults, left_type, control_faults, assign_faults, rank_of as type_rank, mask_faults, mask_rank, else_mask_faults, else_control, block_faults, body_faults, elses_faults}
 use Rattle.hlfir_ops.specs.declared.kinds.ValueKind.{ValueKind}
 use Rattle.hlfir_ops.specs.declared.what.What.{What}
 use Rattle.hlfir_ops.specs.declared.what.What.TheVariants as what
@@ -41,12 +41,13 @@ use Rattle.place_laws.proofs.Lowered.{makes-statement, regions-none, regions-mor
 use Rattle.place_laws.proofs.Plain.{is_plain, plain}
 use Rattle.place_laws.proofs.PlainValues.{plain-value}
 use Rattle.place_laws.proofs.PlainSides.{plain-yielded, plain-left}
-use Rattle.place_laws.proofs.Held.{held-first, held-statement}
+use Rattle.kind_laws.proofs.Held.{held-first, held-statement}
 use Rattle.kind_laws.proofs.ScopesKnown.{inside_known}
 use Rattle.kind_laws.proofs.ScopesFound.{inside_found}
 use Rattle.place_laws.proofs.Yields.{second-yield, left-found, one_rank}
 use Rattle.place_laws.proofs.MaskFacts.{mask-type, same-rank, control-rank}
-use Rattle.place_laws.proofs.Constructs.{where_parts, else_parts}
+use Rattle.kind_laws.proofs.Grammar.{where_parts, else_parts}
+use Rattle.kind_laws.proofs.Faultless.{where_faultless, else_faultless}
 use Rattle.place_laws.proofs.WhereMasks.{mask-found, first-rank}
 use Rattle.place_laws.proofs.Keeping.{Keeps, keeps-done, keeps-then, keeps-where, keeps-elsewhere}
 
@@ -143,13 +144,11 @@ module _ (vs : List Value) (r : ℕ) where
     controlled-body place room t at line (Assign l e) g f = controlled-assignment t at line l e g.0 f
     controlled-body place room t at line (Masked' mask c block d rest) g f =
         let parts = where_parts place room line mask c block d rest g in
-        let test = none_first (where_mask_faults t (within.Masked at (Some r)) line mask ++ block_faults t (under t line mask) block) (elses_faults t line (mask_rank t mask) rest) f in
-        let mask_none = none_first (where_mask_faults t (within.Masked at (Some r)) line mask) (block_faults t (under t line mask) block) test in
-        let rank = rank-known t line mask mask_none in
-        masked-controlled t line mask block rest parts.0 mask_none
-        (controlled-block parts.1.place parts.1.room t line block parts.1.stands (subst (λ o. block_faults t (within.Masked line o) block ≡ []) rank (none_after (where_mask_faults t (within.Masked at (Some r)) line mask) (block_faults t (under t line mask) block) test)))
-        (controlled-elses parts.2.room t line rest parts.2.stands
-        (subst (λ o. elses_faults t line o rest ≡ []) rank (none_after (where_mask_faults t (within.Masked at (Some r)) line mask ++ block_faults t (under t line mask) block) (elses_faults t line (mask_rank t mask) rest) f)))
+        let right = where_faultless t (within.Masked at (Some r)) line mask c block d rest f in
+        let rank = rank-known t line mask right.in_header in
+        masked-controlled t line mask block rest parts.0 right.in_header
+        (controlled-block parts.1.place parts.1.room t line block parts.1.stands (subst (λ o. block_faults t (within.Masked line o) block ≡ []) rank right.in_block))
+        (controlled-elses parts.2.room t line rest parts.2.stands (subst (λ o. elses_faults t line o rest ≡ []) rank right.in_rest))
     controlled-body place room t at line (Forall' is mask c block) g f = impossible line kind.Unsupported f
     controlled-body place room t at line (Loop' x l u st c block) g f = impossible line kind.Unsupported f
     controlled-body place room t at line (Allocate ps) g f = impossible line kind.Unsupported f
@@ -170,10 +169,9 @@ module _ (vs : List Value) (r : ℕ) where
     controlled-elses room t line end_elses g f = keeps-done vs (is_controlled vs r) t
     controlled-elses room t line (more_elses (Else' own mask c block) rest) g f =
         let parts = else_parts room own mask c block rest g in
-        let here = none_first (else_faults t line (Some r) (Else' own mask c block)) (elses_faults t line (Some r) rest) f in
-        let mask_none = none_first (else_mask_faults t own (Some r) mask) (block_faults t (else_control t own line (Some r) mask) block) here in
-        let control = else-block-rank t own line mask mask_none in
+        let right = else_faultless t own line (Some r) mask c block rest f in
+        let control = else-block-rank t own line mask right.in_header in
         keeps-then vs (is_controlled vs r) t (elsewhere own mask (statements block)) (elsewheres rest)
-        (elsewhere-controlled t own mask (statements block) parts.0 mask_none
-        (controlled-block in_where room t control.0 block parts.1 (subst (λ o. block_faults t o block ≡ []) control.1 (none_after (else_mask_faults t own (Some r) mask) (block_faults t (else_control t own line (Some r) mask) block) here))))
-        (controlled-elses parts.2.room t line rest parts.2.stands (none_after (else_faults t line (Some r) (Else' own mask c block)) (elses_faults t line (Some r) rest) f))
+        (elsewhere-controlled t own mask (statements block) parts.0 right.in_header
+        (controlled-block in_where room t control.0 block parts.1 (subst (λ o. block_faults t o block ≡ []) control.1 right.in_block)))
+        (controlled-elses parts.2.room t line rest parts.2.stands right.in_rest)

@@ -2,6 +2,7 @@
 use Rattle.std.proofs.Common.{◌≡◌, refl, sym, ap, ◌∙◌, ℕ, suc, ◌+◌, Bool, true, false, ◌||◌, List, [], ◌∷◌, ◌++◌, length, Option, None, true≢false}
 use Rattle.std.specs.Prelude.{⊤, not, ◌&&◌}
 use Rattle.std.specs.List.{list_all}
+use Rattle.std.proofs.lemmas.Bool.{and_from}
 use Rattle.hlfir_ops.specs.declared.kinds.ValueKind.{ValueKind}
 use Rattle.hlfir_ops.specs.declared.what.What.{What}
 use Rattle.hlfir_ops.specs.declared.what.What.TheVariants as what
@@ -15,9 +16,10 @@ use Rattle.hlfir_ops.specs.RulesPlaces.{Around, Place, Site, around_in, from_num
 use Rattle.hlfir_ops.specs.RulesRegions.{last_of}
 use Rattle.hlfir_ops.specs.RulesStatements.{is_statement, is_declare, declares, is_also, is_like, follows, also_follows}
 use Rattle.kind_laws.proofs.Sited.{op_sites-parts, sites_of-append, defined_by}
+use Rattle.kind_laws.proofs.Ends.{ops-region_of}
 use Rattle.lower_assign.specs.Scopes.{Scope, inside}
 use Rattle.lower_assign.specs.Lowerings.{Lowering, done, ◌>>=◌, scoped, regions_from, holding, statement_of}
-use Rattle.place_laws.proofs.Printed.{both, all-append, all_pass, parts-op_of, ops-region_of, Everywhere}
+use Rattle.place_laws.proofs.Printed.{all-append, all_pass, parts-op_of, Everywhere}
 use Rattle.place_laws.proofs.Plain.{is_plain, plain, Plain}
 
 unfoldable pub fit : Site → Bool
@@ -45,8 +47,8 @@ plain-holds w regions h = (refl, refl)
 pub lists_fit-by : (own : Bool) (before : List Op) (op : Op) → holds_statements (out-Op op).what (out-Op op).regions ≡ true → (not own || follows before op) ≡ true → also_follows before op ≡ true → lists_fit own before op ≡ true
 unfolding lists_fit
 lists_fit-by own before op h g k =
-    let first = both (holds_statements (out-Op op).what (out-Op op).regions) (not own || follows before op) h g in
-    both (holds_statements (out-Op op).what (out-Op op).regions && (not own || follows before op)) (also_follows before op) first k
+    let first = and_from (holds_statements (out-Op op).what (out-Op op).regions) (not own || follows before op) h g in
+    and_from (holds_statements (out-Op op).what (out-Op op).regions && (not own || follows before op)) (also_follows before op) first k
 
 plain_site : (s : Site) → s.place.around.own ≡ false → plain s.op ≡ true → fit s ≡ true
 unfolding fit
@@ -85,7 +87,7 @@ module _ (own : Bool) (before : List Op) (w : What) (line : ℕ) (operands : Lis
       let site : Site = record { place = p; op = op } in
       let parts = op_sites-parts p op ∙ ap (λ f. site ∷ inner f.regions f.what f.kind) (parts-op_of w line operands kind regions) in
       all-append fit (op_sites p op) []
-      (ap (list_all fit) parts ∙ both (fit site) (list_all fit (inner regions w kind)) (ap (λ b. lists_fit b before op) is ∙ h) (g a w 0 (own_numbers kind + n) d))
+      (ap (list_all fit) parts ∙ and_from (fit site) (list_all fit (inner regions w kind)) (ap (λ b. lists_fit b before op) is ∙ h) (g a w 0 (own_numbers kind + n) d))
       refl
 
   follows-by : (b : Bool) → (not own || b) ≡ true → (c : Bool) → (not own || (b || c)) ≡ true

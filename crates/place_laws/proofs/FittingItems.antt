@@ -1,9 +1,9 @@
 -- The ops of one ALLOCATE, DEALLOCATE or READ, and declares, fit one after another.
-use Rattle.std.proofs.Common.{◌≡◌, refl, sym, ap, ◌∙◌, subst, ℕ, suc, ◌+◌, ◌==◌, Bool, true, false, ◌||◌, List, [], ◌∷◌, ◌++◌, length, Option, Some, None, nat_lt, true≢false, arith}
-use Rattle.std.specs.Prelude.{⊤, not, ◌&&◌, ◌-◌, slice_get}
+use Rattle.std.proofs.Common.{◌≡◌, refl, sym, ap, ◌∙◌, subst, ℕ, suc, ◌+◌, ◌==◌, Bool, true, false, ◌||◌, List, [], ◌∷◌, ◌++◌, Option, Some, None, nat_lt, true≢false, arith}
+use Rattle.std.specs.Prelude.{⊤, not, ◌&&◌}
 use Rattle.std.specs.List.{list_all}
 use Rattle.ws_base.specs.declared.name.Name.{Name}
-use Rattle.std.proofs.lemmas.List.{length_push}
+use Rattle.std.proofs.lemmas.Bool.{and_from}
 use Rattle.hlfir_ops.specs.declared.kinds.ValueKind.{ValueKind}
 use Rattle.hlfir_ops.specs.declared.what.What.{What}
 use Rattle.hlfir_ops.specs.declared.what.What.TheVariants as what
@@ -21,17 +21,10 @@ use Rattle.lower_assign.specs.Lowerings.{Lowering, done, ◌>>=◌, scoped, in_t
 use Rattle.lower_assign.specs.References.{declare_of}
 use Rattle.lower_assign.specs.Statements.{yielded, all_yielded, item, all_bounds, allocation, deallocation, reading}
 use Rattle.lower_constructs.specs.Modules.{declaration}
-use Rattle.place_laws.proofs.Printed.{both, all-append, parts-op_of}
+use Rattle.place_laws.proofs.Printed.{all-append, parts-op_of}
 use Rattle.place_laws.proofs.PlainSides.{plain-yielded, plain-all_yielded, plain-left_of, plain-all_bounds}
 use Rattle.place_laws.proofs.Fitting.{Fits, AllEnter, enters-plain, fits-none, fits-append, fits-op, fits-by, fill-from, fits-done, fits-then, lists_fit-by}
-
-at-end : {A : Type 0} (xs : List A) (x : A) → slice_get (xs ++ x ∷ []) (length xs) ≡ Some x
-at-end [] x = refl
-at-end (y ∷ xs) x = at-end xs x
-
-pub last-push : (before : List Op) (op : Op) → last_of (before ++ op ∷ []) ≡ Some op
-last-push before op =
-    let place : length (before ++ op ∷ []) - 1 ≡ length before = omega (arith, length_push before op) in ap (slice_get (before ++ op ∷ [])) place ∙ at-end before op
+use Rattle.kind_laws.proofs.Ends.{last_of-push}
 
 -- ---- items
 
@@ -81,7 +74,7 @@ module _ {A : Type 0} (f : Bool → A → Lowering ⊤) (w : Bool → What) (lin
     like-last : (last : Op) → same_sort (out-Op last).what (w also) ≡ true → (out-Op last).line ≡ line → is_like (Some last) one_op ≡ true
     like-last last sort same =
         ap (λ g. same_sort (out-Op last).what g.what && (out-Op last).line == g.line) (parts-op_of (w also) line operands None regions)
-        ∙ both (same_sort (out-Op last).what (w also)) ((out-Op last).line == line) sort (same_line (out-Op last).line line same)
+        ∙ and_from (same_sort (out-Op last).what (w also)) ((out-Op last).line == line) sort (same_line (out-Op last).line line same)
 
     follows-like : IsAfter also (w also) line before → (not also || is_like (last_of before) one_op) ≡ true
     follows-like h = where-so also (is_like (last_of before) one_op) (λ late. let g = after-one also (w also) line before late h in ap (λ o. is_like o one_op) g.is ∙ like-last g.last g.sort g.on)
@@ -95,7 +88,7 @@ module _ {A : Type 0} (f : Bool → A → Lowering ⊤) (w : Bool → What) (lin
   ends-like before also other operands regions =
       let op = op_of (w also) line operands None regions in
       let parts = parts-op_of (w also) line operands None regions in
-      record { last = op; is = last-push before op; sort = ap (λ g. same_sort g.what (w other)) parts ∙ items.same also other; on = ap (λ g. g.line) parts }
+      record { last = op; is = last_of-push before op; sort = ap (λ g. same_sort g.what (w other)) parts ∙ items.same also other; on = ap (λ g. g.line) parts }
 
   after-first : (late : Bool) (before : List Op) (also : Bool) (operands : List ValueId) (regions : List Region) → IsAfter late (w late) line (before ++ op_of (w also) line operands None regions ∷ [])
   after-first true before also operands regions = ends-like before also true operands regions
@@ -176,4 +169,4 @@ declares-fit k (v ∷ vs) s n before h =
     fits-append true before (op ∷ []) rest.ops
     (fits-op true before (what.Declare v.name) s.line [] (Some v.declare.kind) [] (declare-fits before v.name s.line (Some v.declare.kind) h) (λ a w j m d. refl))
     (declares-fit (suc k) vs s (n + numbers_of (op ∷ [])) (before ++ op ∷ [])
-    (all-append declares before (op ∷ []) h (both (declares op) true (ap (λ f. is_declare f.what) (parts-op_of (what.Declare v.name) s.line [] (Some v.declare.kind) [])) refl)))
+    (all-append declares before (op ∷ []) h (and_from (declares op) true (ap (λ f. is_declare f.what) (parts-op_of (what.Declare v.name) s.line [] (Some v.declare.kind) [])) refl)))

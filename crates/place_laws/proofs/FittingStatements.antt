@@ -3,7 +3,6 @@ use Rattle.std.proofs.Common.{◌≡◌, refl, ap, ◌∙◌, ℕ, ◌+◌, Bool
 use Rattle.std.specs.Prelude.{⊤, not, ◌&&◌}
 use Rattle.std.specs.List.{list_all}
 use mathlib.Core.Former.{Count}
-use Rattle.ws_base.specs.declared.refusal.RefusalKind.TheVariants as kind
 use Rattle.ws_tree.specs.declared.expr.Expr.{Expr}
 use Rattle.ws_tree.specs.declared.stmt.Body.{Body}
 use Rattle.ws_tree.specs.declared.stmt.Body.TheVariants.{Assign, Masked', Forall', Loop', Allocate, Deallocate, Read, Shared', Unsupported, TooDeep as TooDeep'}
@@ -15,7 +14,7 @@ use Rattle.ws_types.specs.Tables.{inner}
 use Rattle.ws_sema.specs.declared.within.Within.{Within}
 use Rattle.ws_sema.specs.declared.within.Within.TheVariants as within
 use Rattle.ws_sema.specs.Declarations.{table_of}
-use Rattle.ws_sema.specs.Statements.{is_inside, is_masked, is_outside, under, mask_rank, else_control, with_active, block_faults, body_faults, else_mask_faults, else_faults, elses_faults, stmts_faults}
+use Rattle.ws_sema.specs.Statements.{under, mask_rank, else_control, with_active, block_faults, body_faults, else_mask_faults, else_faults, elses_faults, stmts_faults}
 use Rattle.ws_sema.proofs.Accepted.{no_stmt_faults}
 use Rattle.hlfir_ops.specs.declared.what.What.{What}
 use Rattle.hlfir_ops.specs.declared.what.What.TheVariants as what
@@ -35,12 +34,12 @@ use Rattle.lower_assign.specs.References.{declare_of}
 use Rattle.lower_assign.specs.Values.{value}
 use Rattle.lower_assign.specs.Statements.{yielded, all_yielded, left, is_whole_allocatable, assignment, allocation, deallocation, reading}
 use Rattle.lower_constructs.specs.Modules.{triple, triples, forall_mask, third, elsewhere, statement, statements, elsewheres, statement_list, declaration, lowered}
-use Rattle.kind_laws.proofs.NoFaults.{none_first, none_after, looked_into}
+use Rattle.kind_laws.proofs.NoFaults.{none_first, none_after}
 use Rattle.place_laws.specs.Laws.{ListsFit}
-use Rattle.place_laws.proofs.Printed.{ops-region_of}
 use Rattle.place_laws.proofs.PlainValues.{plain-value}
 use Rattle.place_laws.proofs.PlainSides.{plain-yielded, plain-all_yielded, plain-left, plain-triple, plain-triples}
-use Rattle.place_laws.proofs.MaskFacts.{allowed}
+use Rattle.kind_laws.proofs.Faultless.{where_faultless, forall_faultless, loop_faultless, shared_faultless}
+use Rattle.kind_laws.proofs.Ends.{ops-region_of}
 use Rattle.place_laws.proofs.Sorts.{program_block, shared_block}
 use Rattle.place_laws.proofs.Fitting.{fit, Fits, Enters, AllEnter, enters-plain, fits-by, fits-done, fits-then, fits-scoped, fits-statement}
 use Rattle.place_laws.proofs.FittingItems.{items-fit, allocations, deallocations, readings, declares-fit}
@@ -103,29 +102,29 @@ mutual
   fits-body : (t : List Row) (w : Within) (line : ℕ) (body : Body) → body_faults t w line body ≡ [] → (own : Bool) (s : Scope) (n : ℕ) (before : List Op) → Fits own before (statement line body s n).ops
   fits-body t w line (Assign l r) f own s n before = fits-assignment line l r own s n before
   fits-body t w line (Masked' mask c block d rest) f own s n before =
-      let inside = looked_into (is_inside w) line kind.Unsupported _ f in
+      let right = where_faultless t w line mask c block d rest f in
       statement-fits what.Masked line [] (yielded (value mask) ∷ statements block ∷ third rest (elsewheres rest)) own before s n
-      (fits-value mask, ((λ s n. fits-block t (under t line mask) block (none_after _ _ (none_first _ _ inside)) false s n []), enters-third rest (elsewheres rest) (λ s n. fits-elses t line (mask_rank t mask) rest (none_after _ _ inside) s n [])))
+      (fits-value mask, ((λ s n. fits-block t (under t line mask) block right.in_block false s n []), enters-third rest (elsewheres rest) (λ s n. fits-elses t line (mask_rank t mask) rest right.in_rest s n [])))
       refl refl refl
   fits-body t w line (Forall' is mask c block) f own s n before =
-      let inside = looked_into (is_masked w) line kind.Unsupported _ f in
+      let right = forall_faultless t w line is mask c block f in
       statement-fits (what.Forall (map (λ i. i.name) is)) line [] (all_yielded (triples is) ∷ (forall_mask mask >>= (λ _. statements block)) ∷ []) own before s n (
         enters-plain (all_yielded (triples is)) (plain-all_yielded (triples is) (plain-triples is)),
         (
           (λ s n. fits-then false (forall_mask mask) (λ _. statements block) s n [] (fits-forall_mask mask s n [])
-              (fits-block (inner t is) within.Forall block (none_after _ _ inside) false s (n + numbers_of (forall_mask mask s n).ops) (forall_mask mask s n).ops)),
+              (fits-block (inner t is) within.Forall block right.in_block false s (n + numbers_of (forall_mask mask s n).ops) (forall_mask mask s n).ops)),
           tt,
         ),
       )
       refl refl refl
   fits-body t w line (Loop' x l u st c block) f own s n before =
-      let inside = looked_into (is_masked w) line kind.Unsupported _ f in
+      let right = loop_faultless t w line x l u st c block f in
       fits-scoped own (λ s. statement_of what.DoLoop line ((declare_of s.names x).value ∷ []) (all_yielded (triple l u st) ∷ statements block ∷ [])) s n before
       (statement-fits what.DoLoop line ((declare_of s.names x).value ∷ []) (all_yielded (triple l u st) ∷ statements block ∷ []) own before s n
-      (enters-plain (all_yielded (triple l u st)) (plain-all_yielded (triple l u st) (plain-triple l u st)), ((λ s n. fits-block (with_active t x) w block (none_after _ _ inside) false s n []), tt))
+      (enters-plain (all_yielded (triple l u st)) (plain-all_yielded (triple l u st) (plain-triple l u st)), ((λ s n. fits-block (with_active t x) w block right.in_block false s n []), tt))
       refl refl (loop-holds line (n + 0) (all_yielded (triple l u st)) block s))
   fits-body t w line (Shared' c block) f own s n before =
-      let inside = allowed (is_outside w) line kind.Unsupported _ f in
+      let inside = shared_faultless t w line c block f in
       statement-fits what.Workshare line [] (statements block ∷ []) own before s n ((λ s n. fits-block t within.Shared block inside false s n []), tt) refl refl (workshare-holds t line (n + 0) block s inside)
   fits-body t w line (Allocate ps) f own s n before = items-fit (allocation line) what.Allocmem line (allocations line) own 0 ps s n before tt
   fits-body t w line (Deallocate xs) f own s n before = items-fit (deallocation line) what.Freemem line (deallocations line) own 0 xs s n before tt

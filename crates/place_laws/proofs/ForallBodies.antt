@@ -1,7 +1,8 @@
 -- The body of a FORALL holds a mask at most, and then assignments of scalars to elements.
-use Rattle.std.proofs.Common.{◌≡◌, refl, sym, ap, ◌∙◌, ℕ, ◌+◌, Bool, true, false, not, ◌||◌, ◌&&◌, List, [], ◌∷◌, ◌++◌, map, Option, Some, None, true≢false}
+use Rattle.std.proofs.Common.{◌≡◌, refl, sym, ap, ◌∙◌, ℕ, ◌+◌, true, false, not, ◌||◌, ◌&&◌, List, [], ◌∷◌, ◌++◌, map, Option, Some, None, true≢false}
 use Rattle.std.specs.Prelude.{⊤}
 use Rattle.std.specs.List.{list_all, flat_map}
+use Rattle.std.proofs.lemmas.Bool.{and_from, or_right, and_parts}
 use mathlib.Core.Former.{Count}
 use Rattle.ws_base.specs.declared.refusal.RefusalKind.TheVariants as kind
 use Rattle.ws_tree.specs.declared.expr.Expr.{Expr}
@@ -36,11 +37,11 @@ use Rattle.lower_assign.specs.References.{reference, sub_kind, sub_values, part_
 use Rattle.lower_assign.specs.Values.{value, part_of, subscripts}
 use Rattle.lower_assign.specs.Statements.{yielded, left, is_whole_allocatable, assignment}
 use Rattle.lower_constructs.specs.Modules.{forall_mask, statement, statements}
-use Rattle.place_laws.proofs.Printed.{both, first_true, second_true, all-append, parts-op_of}
+use Rattle.place_laws.proofs.Printed.{all-append, parts-op_of}
 use Rattle.place_laws.proofs.Lowered.{Makes, makes-then, makes-acting, makes-statement, regions-none, regions-more}
 use Rattle.place_laws.proofs.Scalars.{Works, works-op, works-after}
 use Rattle.place_laws.proofs.ScalarValues.{works-value, works-part}
-use Rattle.place_laws.proofs.Held.{held-first, held-rest, held-giving, held-statement}
+use Rattle.kind_laws.proofs.Held.{held-first, held-rest, held-giving, held-statement}
 use Rattle.kind_laws.proofs.Sides.{sides_are_expressions}
 use Rattle.kind_laws.proofs.ScopesKnown.{inside_known}
 use Rattle.kind_laws.proofs.ScopesFound.{inside_found}
@@ -133,7 +134,7 @@ module _ (vs : List Value) where
       let has = value-kind vs t true line e c i right.0 a known_c no_right right.1 (inside_found vs s w line 0 (n + 0) regions.0 there) regions.1 in
       let designates = left-designate vs l d j part (held-first vs (left l) (λ x. acting what.Yield (x.value ∷ [])) d j after.1) in
       let lefts : list_all (λ v. is_designate (value_at vs v)) (parts_in rs 1) ≡ true =
-      ap (list_all (λ v. is_designate (value_at vs v))) (second-yield (left l) d j (region_of (p c i).ops) []) ∙ both (is_designate (value_at vs (left l d j).made.value)) true designates refl in
+      ap (list_all (λ v. is_designate (value_at vs v))) (second-yield (left l) d j (region_of (p c i).ops) []) ∙ and_from (is_designate (value_at vs (left l d j).made.value)) true designates refl in
       let rights : have_rank vs 0 (parts_in rs 0) ≡ true = one_rank vs 0 (value e c i).made.value (parts_in rs 0) has.kind (first-yield (value e) c i (region_of (q d j).ops ∷ [])) has.found (has.type.rank ∙ right_zero) in
       let op = op_of w line [] None rs in
       record {
@@ -142,8 +143,8 @@ module _ (vs : List Value) where
             (regions-more works_on_scalars s m w line 1 q []
             (yield-works (left l) d (left-works t line l left_is.type d part g known_d (none_first _ _ (none_first _ _ no_left)) left_is.typed (sides.left left_is.type left_is.left)) j)
             (regions-none works_on_scalars s (m + (0 + numbers_of (q d j).ops)) w line 2)));
-        fills = both (fills_elements vs op) true
-            (ap (λ f. fills_element vs f.what f.regions) (parts-op_of w line [] None rs) ∙ both (list_all (λ v. is_designate (value_at vs v)) (parts_in rs 1)) (have_rank vs 0 (parts_in rs 0)) lefts rights) refl;
+        fills = and_from (fills_elements vs op) true
+            (ap (λ f. fills_element vs f.what f.regions) (parts-op_of w line [] None rs) ∙ and_from (list_all (λ v. is_designate (value_at vs v)) (parts_in rs 1)) (have_rank vs 0 (parts_in rs 0)) lefts rights) refl;
       }
 
   -- ---- the body
@@ -196,15 +197,12 @@ module _ (vs : List Value) where
             (regions-more works_on_scalars s (n + 0) w s.line 0 p []
             (yield-works (value e) c (works-value t line c known_c e type.0 (sides_are_expressions t true line e g no_mask) no_mask type.1 (scalar-mask line (typed t true e) type.0 type.1 (none_after _ _ f))) i)
             (regions-none works_on_scalars s ((n + 0) + (0 + numbers_of (p c i).ops)) w s.line 1));
-        fills = both (fills_elements vs (op_of w s.line [] None rs)) true (ap (λ f. fills_element vs f.what f.regions) (parts-op_of w s.line [] None rs)) refl;
+        fills = and_from (fills_elements vs (op_of w s.line [] None rs)) true (ap (λ f. fills_element vs f.what f.regions) (parts-op_of w s.line [] None rs)) refl;
       }
 
 assignments_alone : (ops : List Op) → list_all assigns ops ≡ true → is_forall_body ops ≡ true
 assignments_alone [] h = refl
-assignments_alone (op ∷ ops) h = ap (λ b. b && list_all assigns ops) (or_is (is_forall_mask (out-Op op).what) (assigns op) (first_true (assigns op) (list_all assigns ops) h)) ∙ second_true (assigns op) (list_all assigns ops) h where
-  or_is : (b c : Bool) → c ≡ true → (b || c) ≡ true
-  or_is true c h = refl
-  or_is false c h = h
+assignments_alone (op ∷ ops) h = ap (λ b. b && list_all assigns ops) (or_right (is_forall_mask (out-Op op).what) (assigns op) ((and_parts (assigns op) (list_all assigns ops) h).0)) ∙ (and_parts (assigns op) (list_all assigns ops) h).1
 
 -- a mask at most, and then assignments
 one_mask : (mask : Option Expr) (s : Scope) (n : ℕ) (ops : List Op) → list_all assigns ops ≡ true → is_forall_body ((forall_mask mask s n).ops ++ ops) ≡ true
@@ -223,5 +221,5 @@ forall-fits vs place room t line mask block s n g a f inner k there h =
     let m = n + numbers_of (forall_mask mask s n).ops in
     let fills = elements-then vs (forall_mask mask) (statements block) s n (mask-elements vs t line mask s n g f k)
     (block-elements vs place room t block s m a inner k there (held-rest vs (forall_mask mask) (λ _. statements block) s n h)) in
-    both (is_forall_body ops && list_all works_on_scalars (order_of ops)) (list_all (fills_elements vs) ops)
-    (both (is_forall_body ops) (list_all works_on_scalars (order_of ops)) (one_mask mask s n (statements block s m).ops (forall_block t block inner s m)) fills.works) fills.fills
+    and_from (is_forall_body ops && list_all works_on_scalars (order_of ops)) (list_all (fills_elements vs) ops)
+    (and_from (is_forall_body ops) (list_all works_on_scalars (order_of ops)) (one_mask mask s n (statements block s m).ops (forall_block t block inner s m)) fills.works) fills.fills

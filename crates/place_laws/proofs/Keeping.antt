@@ -23,7 +23,7 @@ use Rattle.place_laws.proofs.Lowered.{Makes, makes-done, makes-then, regions-non
 use Rattle.place_laws.proofs.Plain.{plain, Plain}
 use Rattle.place_laws.proofs.PlainValues.{plain-value}
 use Rattle.place_laws.proofs.PlainSides.{plain-yielded}
-use Rattle.place_laws.proofs.Held.{held-first, held-rest}
+use Rattle.kind_laws.proofs.Held.{held-first, held-rest}
 use Rattle.kind_laws.proofs.ScopesKnown.{inside_known}
 use Rattle.kind_laws.proofs.ScopesFound.{inside_found}
 

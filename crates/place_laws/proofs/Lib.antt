@@ -10,12 +10,10 @@ pub mod FittingItems
 pub mod FittingStatements
 pub mod Scalars
 pub mod ScalarValues
-pub mod Held
 pub mod Outermost
 pub mod Yields
 pub mod MaskFacts
 pub mod Keeping
-pub mod Constructs
 pub mod WhereMasks
 pub mod Controlled
 pub mod WhereBodies

@@ -1,10 +1,7 @@
 -- What the rules on masks, sides and left sides say where none is broken.
 use Rattle.std.proofs.Common.{◌≡◌, refl, sym, ap, ◌∙◌, ℕ, Bool, true, false, not, ◌||◌, List, [], ◌++◌, Option, Some, None, nat_eq, nat_lt, true≢false, if◌then◌else◌, arith}
-use Rattle.std.proofs.lemmas.Bool.{eqb-true, ltb-false}
-use Rattle.ws_base.specs.declared.refusal.Refusal.{Refusal}
+use Rattle.std.proofs.lemmas.Bool.{and_from, eqb-true}
 use Rattle.ws_tree.specs.declared.expr.Expr.{Expr}
-use Rattle.ws_base.specs.declared.refusal.RefusalKind.{RefusalKind}
-use Rattle.ws_types.specs.Kinds.{when}
 use Rattle.ws_types.specs.declared.types.Typed.{Typed}
 use Rattle.ws_types.specs.declared.types.Row.{Row}
 use Rattle.ws_types.specs.Names.{is_constant, is_active, target_faults}
@@ -17,15 +14,11 @@ use Rattle.hlfir_ops.specs.declared.kinds.ValueKind.{ValueKind}
 use Rattle.hlfir_ops.specs.RulesValues.{same_elem, elem_of, rank_of, is_mask}
 use Rattle.lower_assign.specs.Known.{elem}
 use Rattle.kind_laws.specs.Laws.{HasType}
-use Rattle.kind_laws.proofs.NoFaults.{none_first, none_after, not_broken, impossible, left_false, right_false, not_false}
+use Rattle.kind_laws.proofs.NoFaults.{none_first, none_after, not_broken, left_false, right_false, not_false}
 use Rattle.kind_laws.proofs.TypedExpressions.{type_known}
-use Rattle.place_laws.proofs.Printed.{both}
+use Rattle.kind_laws.proofs.TypesTold.{not_above}
 
 -- where it is not refused outright, nothing in it is
-pub allowed : (right : Bool) (line : ℕ) (k : RefusalKind) (xs : List Refusal) → (if right then xs else when true line k) ≡ [] → xs ≡ []
-allowed true line k xs e = e
-allowed false line k xs e = impossible line k e
-
 -- ---- masks
 
 pub record MaskType (enclosing : Option ℕ) (ty : Typed) : Type 0 where
@@ -58,7 +51,7 @@ positive_rank n h = grind (arith, h)
 pub mask-kind : (enclosing : Option ℕ) (ty : Typed) (k : ValueKind) → MaskType enclosing ty → HasType ty k → is_mask (Some k) ≡ true
 mask-kind enclosing ty k m h =
     let type : same_elem I1 (elem_of k) ≡ true = ap (same_elem I1) (h.elem ∙ ap elem m.truth) in
-    both (same_elem I1 (elem_of k)) (nat_lt 0 (rank_of k)) type (ap (nat_lt 0) h.rank ∙ positive_rank ty.rank m.positive)
+    and_from (same_elem I1 (elem_of k)) (nat_lt 0 (rank_of k)) type (ap (nat_lt 0) h.rank ∙ positive_rank ty.rank m.positive)
 
 -- ---- left sides
 
@@ -92,9 +85,6 @@ unfolding control_faults
 control-rank line r left ty is f = same-rank r ty (ap (is_other_rank (Some r)) (sym is) ∙ not_broken _ _ _ f)
 
 -- ---- in a FORALL
-
-not_above : (n : ℕ) → nat_lt 0 n ≡ false → n ≡ 0
-not_above n h = let low = ltb-false 0 n h in omega (arith, low)
 
 pub record ScalarSides (bare : Bool) (a b : Option Typed) : Type 0 where
   pub left : (ty : Typed) → a ≡ Some ty → ty.rank ≡ 0

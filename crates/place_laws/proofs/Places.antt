@@ -18,8 +18,8 @@ use Rattle.lower_constructs.specs.Modules.{statement_list, declaration, lowered}
 use Rattle.place_laws.specs.Laws.{WheresFit, ForallsFit}
 use Rattle.place_laws.proofs.Printed.{all_pass, Everywhere}
 use Rattle.place_laws.proofs.Lowered.{makes-then}
-use Rattle.place_laws.proofs.Held.{held-rest}
-use Rattle.place_laws.proofs.Outermost.{whole, outermost_found}
+use Rattle.kind_laws.proofs.Held.{held-whole, held-rest}
+use Rattle.place_laws.proofs.Outermost.{all_found}
 use Rattle.place_laws.proofs.Bodies.{bodies, where_part, forall_part, free-declares}
 use Rattle.place_laws.proofs.BodiesFit.{keeps-list}
 
@@ -30,8 +30,8 @@ all_bodies t h =
     let s = scope_at (names_of t) [] in
     let p = in_turn declaration 0 (names_of t).variables in
     makes-then (bodies vs) s 0 p (λ _. statement_list t.body) (free-declares vs 0 (names_of t).variables s 0)
-    (keeps-list vs (table_of t.decls) within.Outside t.body h.grammatical.body (no_stmt_faults t h) s (0 + numbers_of (p s 0).ops) (names_are_known t h) (outermost_found t)
-    (held-rest vs p (λ _. statement_list t.body) s 0 (whole (lowered t).ops)))
+    (keeps-list vs (table_of t.decls) within.Outside t.body h.grammatical.body (no_stmt_faults t h) s (0 + numbers_of (p s 0).ops) (names_are_known t h) (all_found t)
+    (held-rest vs p (λ _. statement_list t.body) s 0 (held-whole (lowered t).ops)))
 
 pub wheres_fit : WheresFit
 wheres_fit t h =

@@ -2,6 +2,7 @@
 use Rattle.std.proofs.Common.{◌≡◌, refl, ap, ◌∙◌, ℕ, suc, ◌+◌, Bool, true, ◌||◌, List, [], ◌∷◌, map, Option, None, nat_lt}
 use Rattle.std.specs.Prelude.{⊤, not, ◌&&◌}
 use Rattle.std.specs.List.{list_all}
+use Rattle.std.proofs.lemmas.Bool.{and_from}
 use mathlib.Core.Former.{Count}
 use Rattle.ws_base.specs.declared.name.Name.{Name}
 use Rattle.ws_base.specs.declared.refusal.RefusalKind.TheVariants as kind
@@ -26,7 +27,7 @@ use Rattle.lower_assign.specs.Values.{value}
 use Rattle.lower_assign.specs.Statements.{yielded, all_yielded, left, item, is_whole_allocatable, assignment, all_bounds, allocation, deallocation, reading}
 use Rattle.lower_constructs.specs.Modules.{triple, triples, forall_mask, third, statement, statements, elsewheres}
 use Rattle.kind_laws.proofs.NoFaults.{none_first, none_after, impossible}
-use Rattle.place_laws.proofs.Printed.{all-append, both, parts-op_of}
+use Rattle.place_laws.proofs.Printed.{all-append, parts-op_of}
 
 -- each op of the list has a sort that passes this test
 abbrev pub Sorted : {A : Type 0} → (What → Bool) → Lowering A → Type 0
@@ -50,7 +51,7 @@ module _ (test : What → Bool) where
   unfolding statement_of
   sorted-statement w line operands ps h s n =
       let op = holding w line operands None ps s n in
-      both (test (out-Op op).what) true (ap (λ f. test f.what) (parts-op_of w line operands None (regions_from w line 0 (n + own_numbers None) ps s)) ∙ h) refl
+      and_from (test (out-Op op).what) true (ap (λ f. test f.what) (parts-op_of w line operands None (regions_from w line 0 (n + own_numbers None) ps s)) ∙ h) refl
 
   pub sorted-in_turn : {A : Type 0} (f : ℕ → A → Lowering ⊤) (k : ℕ) (xs : List A) → ((k : ℕ) (x : A) → Sorted test (f k x)) → Sorted test (in_turn f k xs)
   unfolding in_turn

@@ -1,6 +1,7 @@
 -- WHERE and ELSEWHERE hold what they may, under masks that fit.
 use Rattle.std.proofs.Common.{◌≡◌, refl, sym, ap, ◌∙◌, subst, ℕ, ◌+◌, ◌==◌, Bool, true, false, ◌||◌, ◌&&◌, List, [], ◌∷◌, ◌++◌, length, Option, Some, None, nat_lt}
 use Rattle.std.specs.List.{list_all}
+use Rattle.std.proofs.lemmas.Bool.{and_from}
 use mathlib.Core.Former.{Count}
 use Rattle.ws_tree.specs.declared.expr.Expr.{Expr}
 use Rattle.ws_tree.specs.declared.stmt.Else.{Else'}
@@ -28,14 +29,14 @@ use Rattle.kind_laws.specs.Standing.{Knows}
 use Rattle.kind_laws.specs.Found.{RegionsHeld, ScopeIsFound}
 use Rattle.kind_laws.proofs.NoFaults.{none_first, none_after}
 use Rattle.kind_laws.proofs.TypedExpressions.{type_known}
+use Rattle.kind_laws.proofs.Ends.{ops_in-first, ops_in-second, ops_in-third}
 use Rattle.lower_assign.specs.Scopes.{Scope, inside}
 use Rattle.lower_assign.specs.Lowerings.{done, ◌>>=◌, regions_from, statement_of}
 use Rattle.lower_assign.specs.Values.{value}
 use Rattle.lower_assign.specs.Statements.{yielded}
 use Rattle.lower_constructs.specs.Modules.{third, statements, elsewheres}
 use Rattle.lower_constructs.specs.Lists.{mask_of}
-use Rattle.place_laws.proofs.Printed.{both, parts-op_of, EverywhereIn}
-use Rattle.place_laws.proofs.Yields.{first-region, second-region, third-region}
+use Rattle.place_laws.proofs.Printed.{parts-op_of, EverywhereIn}
 use Rattle.place_laws.proofs.MaskFacts.{MaskType, mask-type, mask-kind}
 use Rattle.place_laws.proofs.WhereMasks.{FirstIs, mask-found, first-kind}
 use Rattle.place_laws.proofs.Controlled.{plain-controlled, controlled-block, controlled-elses}
@@ -73,14 +74,14 @@ module _ (vs : List Value) where
   fits_by : (rs : List Region) (enclosing : Option ℕ) (ty : Typed) → MaskType enclosing ty → FirstIs vs ty rs → EverywhereIn (is_controlled vs ty.rank) rs → mask_fits vs (first_kind vs (parts_in rs 0)) rs ≡ true
   fits_by rs enclosing ty m first all =
       ap (λ o. mask_fits vs o rs) (first-kind vs ty rs first)
-      ∙ both (is_mask (Some first.kind)) (list_all (is_controlled vs (rank_of first.kind)) (order_in rs)) (mask-kind enclosing ty first.kind m first.type) (subst (λ n. EverywhereIn (is_controlled vs n) rs) (sym first.type.rank) all)
+      ∙ and_from (is_mask (Some first.kind)) (list_all (is_controlled vs (rank_of first.kind)) (order_in rs)) (mask-kind enclosing ty first.kind m first.type) (subst (λ n. EverywhereIn (is_controlled vs n) rs) (sym first.type.rank) all)
 
   third-elses : {c : Count} (room line m : ℕ) (first second : Region) (rest : Elses c) (s : Scope) → AreElses room rest →
       are_elsewheres (ops_in (first ∷ second ∷ regions_from what.Masked line 2 m (third rest (elsewheres rest)) s) 2) ≡ true
   third-elses room line m first second end_elses s g = refl
   third-elses room line m first second (more_elses e es) s g =
       let c = inside what.Masked line 2 m s in
-      ap are_elsewheres (third-region first second (elsewheres (more_elses e es) c (m + 0)).ops []) ∙ only_last room (more_elses e es) g c (m + 0)
+      ap are_elsewheres (ops_in-third first second (elsewheres (more_elses e es) c (m + 0)).ops []) ∙ only_last room (more_elses e es) g c (m + 0)
 
   pub where-fits : {b c : Count} (enclosing : Option ℕ) (place : grammar.Within) (room others : ℕ) (t : List Row) (line n : ℕ) (mask : Expr) (block : Stmts b) (rest : Elses c) (s : Scope) → IsSide mask → AreStmts place room block → AreElses others rest →
       faults t false line mask ++ mask_faults line enclosing (typed t false mask) ≡ [] → block_faults t (under t line mask) block ≡ [] → elses_faults t line (mask_rank t mask) rest ≡ [] → Knows t s → ScopeIsFound vs s →
@@ -102,10 +103,10 @@ module _ (vs : List Value) where
       let held_block = subst (λ o. block_faults t (within.Masked line o) block ≡ []) rank inner in
       let held_elses = subst (λ o. elses_faults t line o rest ≡ []) rank outer in
       let all = keeps-where vs (is_controlled vs r) (plain-controlled vs r) t line s k there n mask block rest (controlled-block vs r place room t line block a held_block) (controlled-elses vs r others t line rest e held_elses) h in
-      let stand = ap (list_all stands_in_where) (second-region (region_of (p (inside what.Masked line 0 n s) (n + 0)).ops) (statements block c (m + 0)).ops (regions_from what.Masked line 2 j (third rest (elsewheres rest)) s))
+      let stand = ap (list_all stands_in_where) (ops_in-second (region_of (p (inside what.Masked line 0 n s) (n + 0)).ops) (statements block c (m + 0)).ops (regions_from what.Masked line 2 j (third rest (elsewheres rest)) s))
       ∙ where_block t line (Some r) block held_block c (m + 0) in
-      both (list_all stands_in_where (ops_in rs 1) && are_elsewheres (ops_in rs 2)) (mask_fits vs (first_kind vs (parts_in rs 0)) rs)
-      (both (list_all stands_in_where (ops_in rs 1)) (are_elsewheres (ops_in rs 2)) stand
+      and_from (list_all stands_in_where (ops_in rs 1) && are_elsewheres (ops_in rs 2)) (mask_fits vs (first_kind vs (parts_in rs 0)) rs)
+      (and_from (list_all stands_in_where (ops_in rs 1)) (are_elsewheres (ops_in rs 2)) stand
       (third-elses others line j (region_of (p (inside what.Masked line 0 n s) (n + 0)).ops) (region_of (statements block c (m + 0)).ops) rest s e))
       (fits_by rs enclosing type.0 is first all)
 
@@ -116,7 +117,7 @@ module _ (vs : List Value) where
   unfolding where_of
   elsewhere-fits place room t own line n enclosing None block s g a f inner k there h =
       let c = inside what.Elsewhere own 0 n s in
-      ap (list_all stands_in_where) (first-region (statements block c (n + 0)).ops []) ∙ where_block t line enclosing block inner c (n + 0)
+      ap (list_all stands_in_where) (ops_in-first (statements block c (n + 0)).ops []) ∙ where_block t line enclosing block inner c (n + 0)
   elsewhere-fits place room t own line n enclosing (Some mask) block s g a f inner k there h =
       let p = yielded (value mask) in
       let ps = statements block ∷ [] in
@@ -130,5 +131,5 @@ module _ (vs : List Value) where
       let c = inside what.Elsewhere own 1 m s in
       let held_block = subst (λ o. block_faults t (within.Masked own o) block ≡ []) rank inner in
       let all = keeps-elsewhere vs (is_controlled vs r) (plain-controlled vs r) t own s k there n (Some mask) (statements block) (controlled-block vs r place room t own block a held_block) h in
-      let stand = ap (list_all stands_in_where) (second-region (region_of (p (inside what.Elsewhere own 0 n s) (n + 0)).ops) (statements block c (m + 0)).ops []) ∙ where_block t own (Some r) block held_block c (m + 0) in
-      both (list_all stands_in_where (ops_in rs 1)) (mask_fits vs (first_kind vs (parts_in rs 0)) rs) stand (fits_by rs enclosing type.0 is first all)
+      let stand = ap (list_all stands_in_where) (ops_in-second (region_of (p (inside what.Elsewhere own 0 n s) (n + 0)).ops) (statements block c (m + 0)).ops []) ∙ where_block t own (Some r) block held_block c (m + 0) in
+      and_from (list_all stands_in_where (ops_in rs 1)) (mask_fits vs (first_kind vs (parts_in rs 0)) rs) stand (fits_by rs enclosing type.0 is first all)

@@ -1,5 +1,6 @@
 -- What the regions of a statement yield, and what is found of it.
-use Rattle.std.proofs.Common.{◌≡◌, refl, ap, ◌∙◌, ℕ, ◌==◌, Bool, true, ◌||◌, List, [], ◌∷◌, Some, None, if◌then◌else◌, arith}
+use Rattle.std.proofs.Common.{◌≡◌, refl, ap, ◌∙◌, ℕ, ◌==◌, Bool, true, List, [], ◌∷◌, Some, arith}
+use Rattle.std.proofs.lemmas.Bool.{and_from}
 use Rattle.ws_tree.specs.declared.expr.Expr.{Expr}
 use Rattle.ws_tree.specs.Grammatical.{IsSide, IsDesignator}
 use Rattle.ws_sema.specs.Statements.{left_faults, left_type}
@@ -9,11 +10,10 @@ use Rattle.ws_types.specs.Expressions.{typed, faults}
 use Rattle.hlfir_ops.specs.declared.kinds.ValueKind.{ValueKind}
 use Rattle.hlfir_ops.specs.declared.what.What.TheVariants as what
 use Rattle.hlfir_ops.specs.declared.op.ValueId.{ValueId}
-use Rattle.hlfir_ops.specs.declared.op.Op.{Op}
 use Rattle.hlfir_ops.specs.declared.op.Region.{Region}
-use Rattle.hlfir_ops.specs.Trees.{op_of, region_of}
+use Rattle.hlfir_ops.specs.Trees.{region_of}
 use Rattle.hlfir_ops.specs.RulesValues.{Value, kind_of, kind_at, value_at, rank_of, has_rank}
-use Rattle.hlfir_ops.specs.RulesRegions.{ops_in, is_yield, is_yield_element, parts_of, parts, parts_in}
+use Rattle.hlfir_ops.specs.RulesRegions.{parts, parts_in}
 use Rattle.hlfir_ops.specs.RulesStatements.{have_rank}
 use Rattle.kind_laws.specs.Standing.{Knows}
 use Rattle.kind_laws.specs.Found.{Holds, ScopeIsFound}
@@ -23,37 +23,20 @@ use Rattle.kind_laws.proofs.ExpressionsFound.{values_are_found}
 use Rattle.kind_laws.proofs.Sides.{sides_are_expressions, lefts_are_found}
 use Rattle.lower_assign.specs.declared.operand.Operand.{Operand}
 use Rattle.lower_assign.specs.Scopes.{Scope}
-use Rattle.lower_assign.specs.Lowerings.{Lowering, ◌>>=◌, scoped, acting}
+use Rattle.lower_assign.specs.Lowerings.{Lowering, scoped, acting}
 use Rattle.lower_assign.specs.Values.{value}
 use Rattle.lower_assign.specs.Statements.{yielded, left}
-use Rattle.place_laws.proofs.Printed.{both, parts-op_of, ops-region_of}
-use Rattle.place_laws.proofs.FittingItems.{last-push}
-use Rattle.place_laws.proofs.Held.{held-first}
+use Rattle.kind_laws.proofs.Held.{held-first}
+use Rattle.kind_laws.proofs.Ends.{ops_in-first, ops_in-second, parts-yielded}
 
 -- ---- yields
 
-pub parts-yielded : (p : Lowering Operand) (s : Scope) (n : ℕ) → parts (yielded p s n).ops ≡ (p s n).made.value ∷ []
-unfolding ◌>>=◌ acting
-parts-yielded p s n =
-    let v = (p s n).made.value in
-    ap parts_of (last-push (p s n).ops (op_of what.Yield s.line (v ∷ []) None []))
-    ∙ ap (λ f. if is_yield f.what || is_yield_element f.what then f.operands else []) (parts-op_of what.Yield s.line (v ∷ []) None [])
-
-pub first-region : (ops : List Op) (rest : List Region) → ops_in (region_of ops ∷ rest) 0 ≡ ops
-first-region ops rest = ops-region_of ops
-
-pub second-region : (first : Region) (ops : List Op) (rest : List Region) → ops_in (first ∷ region_of ops ∷ rest) 1 ≡ ops
-second-region first ops rest = ops-region_of ops
-
-pub third-region : (first second : Region) (ops : List Op) (rest : List Region) → ops_in (first ∷ second ∷ region_of ops ∷ rest) 2 ≡ ops
-third-region first second ops rest = ops-region_of ops
-
 -- what a region yields that holds `yielded p`
 pub first-yield : (p : Lowering Operand) (s : Scope) (n : ℕ) (rest : List Region) → parts_in (region_of (yielded p s n).ops ∷ rest) 0 ≡ (p s n).made.value ∷ []
-first-yield p s n rest = ap parts (first-region (yielded p s n).ops rest) ∙ parts-yielded p s n
+first-yield p s n rest = ap parts (ops_in-first (yielded p s n).ops rest) ∙ parts-yielded p s n
 
 pub second-yield : (p : Lowering Operand) (s : Scope) (n : ℕ) (first : Region) (rest : List Region) → parts_in (first ∷ region_of (yielded p s n).ops ∷ rest) 1 ≡ (p s n).made.value ∷ []
-second-yield p s n first rest = ap parts (second-region first (yielded p s n).ops rest) ∙ parts-yielded p s n
+second-yield p s n first rest = ap parts (ops_in-second first (yielded p s n).ops rest) ∙ parts-yielded p s n
 
 -- ---- kinds
 
@@ -77,7 +60,7 @@ same_number m n h = grind (arith, h)
 -- a value of this rank
 pub one_rank : (vs : List Value) (n : ℕ) (v : ValueId) (ps : List ValueId) (kind : ValueKind) → ps ≡ v ∷ [] → kind_at vs v ≡ Some kind → rank_of kind ≡ n → have_rank vs n ps ≡ true
 one_rank vs n v ps kind is found rank =
-    ap (have_rank vs n) is ∙ both (has_rank n (kind_at vs v)) true (ap (has_rank n) found ∙ same_number (rank_of kind) n rank) refl
+    ap (have_rank vs n) is ∙ and_from (has_rank n (kind_at vs v)) true (ap (has_rank n) found ∙ same_number (rank_of kind) n rank) refl
 
 -- ---- left sides
 

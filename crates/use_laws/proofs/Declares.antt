@@ -16,7 +16,6 @@ use Rattle.hlfir_ops.specs.declared.kinds.Elem.{Elem}
 use Rattle.hlfir_ops.specs.declared.what.What.TheVariants as what
 use Rattle.hlfir_ops.specs.declared.op.Op.{Op, Op-F, out-roll-Op}
 use Rattle.hlfir_ops.specs.declared.op.Region.{Region}
-use Rattle.hlfir_ops.specs.Trees.{op_of}
 use Rattle.hlfir_ops.specs.Numbers.{op_numbers, numbers_of, op_kinds, kinds_of}
 use Rattle.hlfir_ops.specs.RulesValues.{is_expression}
 use Rattle.hlfir_ops.specs.RulesPlaces.{from_number, own_defined}
@@ -24,55 +23,51 @@ use Rattle.hlfir_ops.proofs.Numbered.{op_numbers-op_of}
 use Rattle.kind_laws.proofs.Sited.{defined_by}
 use Rattle.lower_assign.specs.declared.names.Variable.{Variable}
 use Rattle.lower_assign.specs.Known.{declared_kind, variable_kind, declares_variable, if_variable, variable_decls, numbered}
-use Rattle.lower_assign.specs.Scopes.{Scope}
-use Rattle.lower_assign.specs.Lowerings.{done, ◌>>=◌, in_turn, giving}
+use Rattle.lower_assign.specs.Lowerings.{done, ◌>>=◌, giving}
 use Rattle.lower_constructs.specs.Modules.{declaration}
 use Rattle.use_laws.proofs.Counting.{hit, hit-other, IsArrayAt}
 use Rattle.use_laws.proofs.Defined.{In}
 use Rattle.kind_laws.proofs.NoFaults.{none_first, none_after, not_broken}
+use Rattle.kind_laws.proofs.DeclaresFound.{declare_op, GivesDeclares}
 use Rattle.use_laws.proofs.Uses.{Uses, uses-none, uses-append, uses-op, inner-none, op_kinds-is}
 use Rattle.use_laws.proofs.Standing.{IsNoVariable, HasNoVariables, IsFreeVariable}
 
 -- ---- their ops
 
-abbrev pub declare : ℕ → Variable → Op
-declare line v = op_of (what.Declare v.name) line [] (Some v.declare.kind) []
-
-pub declares-are : (s : Scope) (j n : ℕ) (vs : List Variable) → (in_turn declaration j vs s n).ops ≡ map (declare s.line) vs
-unfolding in_turn declaration giving done ◌>>=◌
-declares-are s j n [] = refl
-declares-are s j n (v ∷ vs) = ap (λ l. declare s.line v ∷ l) (declares-are s (suc j) (n + numbers_of (declare s.line v ∷ [])) vs)
+pub gives_declares : GivesDeclares declaration
+unfolding declaration giving done ◌>>=◌
+gives_declares k v s n = refl
 
 -- it is no value of an array expression
 abbrev pub IsPlain : Variable → Type 0
 IsPlain v = is_expression (Some v.declare.kind) ≡ false
 
 module _ (line : ℕ) where
-  one-number : (v : Variable) → op_numbers (declare line v) ≡ 1
+  one-number : (v : Variable) → op_numbers (declare_op line v) ≡ 1
   one-number v = op_numbers-op_of (what.Declare v.name) line [] (Some v.declare.kind) [] ∙ omega arith
 
-  pub declares-kinds : (vs : List Variable) → kinds_of (map (declare line) vs) ≡ map (λ v. v.declare.kind) vs
+  pub declares-kinds : (vs : List Variable) → kinds_of (map (declare_op line) vs) ≡ map (λ v. v.declare.kind) vs
   declares-kinds [] = refl
   declares-kinds (v ∷ vs) =
-      ap (λ l. op_kinds (declare line v) ++ l) (declares-kinds vs)
-      ∙ ap (λ l. l ++ map (λ w. w.declare.kind) vs) (sym (append-nil (op_kinds (declare line v))) ∙ op_kinds-is (what.Declare v.name) line [] (Some v.declare.kind) [])
+      ap (λ l. op_kinds (declare_op line v) ++ l) (declares-kinds vs)
+      ∙ ap (λ l. l ++ map (λ w. w.declare.kind) vs) (sym (append-nil (op_kinds (declare_op line v))) ∙ op_kinds-is (what.Declare v.name) line [] (Some v.declare.kind) [])
 
-  declares-defined : (n : ℕ) (vs : List Variable) → defined_by n (map (declare line) vs) ≡ from_number n vs
+  declares-defined : (n : ℕ) (vs : List Variable) → defined_by n (map (declare_op line) vs) ≡ from_number n vs
   declares-defined n [] = refl
   declares-defined n (v ∷ vs) =
-      ap (λ (f : Op-F Op Region). own_defined n f.kind ++ defined_by (op_numbers (declare line v) + n) (map (declare line) vs))
+      ap (λ (f : Op-F Op Region). own_defined n f.kind ++ defined_by (op_numbers (declare_op line v) + n) (map (declare_op line) vs))
       (out-roll-Op (record { what = what.Declare v.name; line = line; operands = []; kind = Some v.declare.kind; regions = [] }))
-      ∙ (ap (λ m. n ∷ defined_by m (map (declare line) vs)) (omega (arith, one-number v)) ∙ ap (λ l. n ∷ l) (declares-defined (suc n) vs))
+      ∙ (ap (λ m. n ∷ defined_by m (map (declare_op line) vs)) (omega (arith, one-number v)) ∙ ap (λ l. n ∷ l) (declares-defined (suc n) vs))
 
-  pub declares-use : (k n : ℕ) (D : List ℕ) (vs : List Variable) → AllByRecursion IsPlain vs → IsArrayAt k n (map (λ v. v.declare.kind) vs) → Uses k n D (map (declare line) vs) 0 0
+  pub declares-use : (k n : ℕ) (D : List ℕ) (vs : List Variable) → AllByRecursion IsPlain vs → IsArrayAt k n (map (λ v. v.declare.kind) vs) → Uses k n D (map (declare_op line) vs) 0 0
   declares-use k n D [] plain strict = uses-none k n D 0
   declares-use k n D (v ∷ vs) plain strict =
-      let op = declare line v in
+      let op = declare_op line v in
       let one : hit k n + 0 ≡ 0 = omega (arith, hit-other k n (λ e. false≢true (sym plain.0 ∙ strict.0 e))) in
       let here : Uses k n D (op ∷ []) 0 0 = subst (λ c. Uses k n D (op ∷ []) 0 c) one (uses-op (what.Declare v.name) line [] (Some v.declare.kind) [] k n D 0 tt (inner-none k 0 (n + 1) D (what.Declare v.name))) in
       let number : suc n ≡ n + numbers_of (op ∷ []) = omega (arith, one-number v) in
       let later = declares-use k (n + numbers_of (op ∷ [])) (D ++ defined_by n (op ∷ [])) vs plain.1 (subst (λ m. IsArrayAt k m (map (λ w. w.declare.kind) vs)) number strict.1) in
-      uses-append k n D (op ∷ []) (map (declare line) vs) 0 0 0 0 here later
+      uses-append k n D (op ∷ []) (map (declare_op line) vs) 0 0 0 0 here later
 
 -- ---- the variables
 
@@ -94,9 +89,9 @@ numbered-free k n E cs [] strict h = tt
 numbered-free k n E cs (d ∷ ds) strict h =
     (record { defined = h n (inl refl); other = λ e. false≢true (sym (numbered-plain n cs (d ∷ ds)).0 ∙ strict.0 e) }, numbered-free k (suc n) E cs ds strict.1 (λ x i. h x (inr i)))
 
-pub declared-free : (k line : ℕ) (cs : List Constant) (ds : List Decl) → IsArrayAt k 0 (map (λ v. v.declare.kind) (numbered 0 cs ds)) → AllByRecursion (IsFreeVariable k (defined_by 0 (map (declare line) (numbered 0 cs ds)))) (numbered 0 cs ds)
+pub declared-free : (k line : ℕ) (cs : List Constant) (ds : List Decl) → IsArrayAt k 0 (map (λ v. v.declare.kind) (numbered 0 cs ds)) → AllByRecursion (IsFreeVariable k (defined_by 0 (map (declare_op line) (numbered 0 cs ds)))) (numbered 0 cs ds)
 declared-free k line cs ds strict =
-    let vs = numbered 0 cs ds in numbered-free k 0 (defined_by 0 (map (declare line) vs)) cs ds strict (λ x i. subst (λ l. In l x) (sym (declares-defined line 0 vs)) i)
+    let vs = numbered 0 cs ds in numbered-free k 0 (defined_by 0 (map (declare_op line) vs)) cs ds strict (λ x i. subst (λ l. In l x) (sym (declares-defined line 0 vs)) i)
 
 -- ---- a table of named constants
 

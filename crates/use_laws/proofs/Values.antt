@@ -40,6 +40,7 @@ use Rattle.use_laws.proofs.Walking.{Lowers, of_operand, lowers-done, lowers-then
 use Rattle.use_laws.proofs.Operations.{of_operands, lowers-constant, lowers-in_parentheses, lowers-unary_operation, lowers-binary_operation, lowers-call_on, lowers-vector}
 use Rattle.use_laws.proofs.References.{lowers-reference, lowers-loaded, lowers-named, lowers-bound, lowers-designated, lowers-inquiry}
 use Rattle.kind_laws.proofs.NoFaults.{none_first, none_after}
+use Rattle.kind_laws.proofs.FormsMade.{is_nesting}
 use Rattle.use_laws.proofs.Clean.{no-part, no-inquiry, called-inquiry, called-parts}
 
 -- ---- what is held of lists and subscripts
@@ -136,11 +137,6 @@ subs-parts : {m : Count} (x : Sub) (xs : Subs m) → AreSubs (more_subs x xs) �
 subs-parts (sub.One e) xs h = (h.0, h.1)
 subs-parts (sub.Range' l u s) xs h = ((h.0, h.1, h.2), h.3)
 
-nests-no-inquiry : (w : CallWord) (op : ValueBinary) → nesting_of w ≡ Some op → is_inquiry w ≡ false
-nests-no-inquiry word.Min op e = refl
-nests-no-inquiry word.Max op e = refl
-nests-no-inquiry _ op e = cc
-
 part-some : (t : List Row) (line : ℕ) (x : Name) (c : _) (subs : _) → IsClean t line (Part' x c subs) → HasNoVariables t → ⊥
 part-some t line x c subs h none = let f = (h none).1 in no-part t line x subs none (h none).0.1 (none_first _ _ (none_first _ _ f)) (none_after _ _ f)
 
@@ -179,7 +175,7 @@ module _ (k : ℕ) (t : List Row) (line : ℕ) where
         call-lowers k t s n D stands w (listed es) (values es) (λ op. nested op None es)
         (λ inquires. lowers-inquiry k t s n D stands w (listed es) (λ none. no-inquiry t line w (listed es) none (called-inquiry t false line w (listed es) (all_faults t false line es) (arguments t false no_arguments es) inquires (h none).1)))
         (λ other. lowers-values es s n D stands (parts other))
-        (λ op nests. lowers-nested es op None s n D stands tt (λ none. nests-started w op es nests (h none).0.0) (parts (nests-no-inquiry w op nests)))
+        (λ op nests. lowers-nested es op None s n D stands tt (λ none. nests-started w op es nests (h none).0.0) (parts (is_nesting w op nests).asks))
     lowers-value (Vector' c es) s n D stands h =
         lowers-then k s n D (values es) vector 0 0 0 of_operands of_operand refl (lowers-values es s n D stands (λ none. ((h none).0.1, none_first _ _ (h none).1)))
         (λ xs m E g i. lowers-by k s m E (vector xs) (hits k (of_operands xs)) (hits k (of_operands xs) + 0) of_operand (omega arith) (lowers-vector k s m E xs i))

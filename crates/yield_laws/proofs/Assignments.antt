@@ -1,6 +1,7 @@
 -- An assignment is right.
 use Rattle.std.proofs.Common.{◌≡◌, refl, sym, ap, ◌∙◌, ℕ, ◌==◌, nat_lt, nat_eq, Bool, true, false, not, ◌&&◌, ◌||◌, List, [], ◌∷◌, Option, Some, arith, true≢false}
 use Rattle.std.specs.List.{list_all}
+use Rattle.std.proofs.lemmas.Bool.{and_from}
 use Rattle.ws_tree.specs.declared.expr.Expr.{Expr}
 use Rattle.ws_tree.specs.declared.expr.Expr.TheVariants.{Named}
 use Rattle.ws_types.specs.declared.types.Typed.{Typed}
@@ -19,12 +20,12 @@ use Rattle.lower_assign.specs.declared.names.Names.{Names}
 use Rattle.lower_assign.specs.declared.operand.Operand.{Operand}
 use Rattle.lower_assign.specs.Known.{elem}
 use Rattle.lower_assign.specs.Statements.{left, is_whole_allocatable}
-use Rattle.yield_laws.proofs.Right.{both, IsRight, op-right}
+use Rattle.yield_laws.proofs.Right.{IsRight, op-right}
 use Rattle.kind_laws.proofs.NoFaults.{not_false}
-use Rattle.yield_laws.proofs.Ends.{ops_in-first, ops_in-second}
+use Rattle.kind_laws.proofs.Ends.{ops_in-first, ops_in-second}
+use Rattle.kind_laws.proofs.TypesTold.{same_elem-same, not_other}
 use Rattle.yield_laws.proofs.Regions.{no-regions, more-regions, region-reached}
 use Rattle.yield_laws.proofs.Usable.{IsUsable}
-use Rattle.yield_laws.proofs.Typed.{same-elem, truth-is}
 use Rattle.yield_laws.proofs.Yielded.{IsYielding, first-kind, one-of, value-yielded, usable-yielded, yielded-reached}
 
 -- ---- truth values
@@ -55,8 +56,8 @@ ranks_agree a b h = two (nat_lt 0 b) refl
 pub sides_fit : (a b : Typed) (left right : ValueKind) → elem_of left ≡ elem a.truth → rank_of left ≡ a.rank → elem_of right ≡ elem b.truth → rank_of right ≡ b.rank → types_differ (Some a) (Some b) ≡ false → is_wrong_right (Some a) (Some b) ≡ false →
     sides_agree (Some right) (Some left) ≡ true
 sides_fit a b left right le lr re rr types ranks =
-    let same : b.truth ≡ a.truth = truth-is a.truth b types in
-    both _ _ (ap (λ e. same_elem e (elem_of left)) (re ∙ (ap elem same ∙ sym le)) ∙ same-elem (elem_of left))
+    let same : b.truth ≡ a.truth = not_other a.truth b types in
+    and_from _ _ (ap (λ e. same_elem e (elem_of left)) (re ∙ (ap elem same ∙ sym le)) ∙ same_elem-same (elem_of left))
     (ap (λ n. n == 0 || n == rank_of left) rr ∙ (ap (λ n. b.rank == 0 || b.rank == n) lr ∙ ranks_agree a.rank b.rank ranks))
 
 -- a left side without subscripts stands in no forall
@@ -79,8 +80,8 @@ module _ (vs : List Value) (m realloc : Bool) (line : ℕ) (kind : Option ValueK
 
   judged : (b : Bool) → yields_no_allocatable vs (region_of right) ≡ true → (b ≡ false → yields_no_allocatable vs (region_of left) ≡ true) → list_all (yields_no_allocatable vs) (regions_judged (what.Assign b) regions) ≡ true
   unfolding regions
-  judged true h g = both _ true h refl
-  judged false h g = both _ _ h (both _ true (g refl) refl)
+  judged true h g = and_from _ true h refl
+  judged false h g = and_from _ _ h (and_from _ true (g refl) refl)
 
   pub assign-right : (u : IsUsable vs x) → is_place (Some x.kind) ≡ false → (v : Value) → value_at vs y.value ≡ Some v → v.kind ≡ y.kind → is_target (Some y.kind) ≡ true → is_allocatable_declare (Some v) ≡ realloc →
       (m ≡ true → realloc ≡ false) → sides_agree (Some x.kind) (Some y.kind) ≡ true → IsRight vs m (op_of (what.Assign realloc) line [] kind (region_of right ∷ region_of left ∷ []))
@@ -94,8 +95,8 @@ module _ (vs : List Value) (m realloc : Bool) (line : ℕ) (kind : Option ValueK
       op-right vs m (what.Assign realloc) line [] kind regions
       (record {
         other = refl;
-        yields = both _ _ (ap (yields_value vs) first ∙ value-yielded right_yields u.found no_place)
-            (ap (yields_target vs) second ∙ both _ _ (one-of left_yields) (ap is_target left_kind ∙ target));
+        yields = and_from _ _ (ap (yields_value vs) first ∙ value-yielded right_yields u.found no_place)
+            (ap (yields_target vs) second ∙ and_from _ _ (one-of left_yields) (ap is_target left_kind ∙ target));
         sides =
             ap (λ a. sides_agree (first_kind vs (parts a)) (first_kind vs (parts_in regions 1))) first
             ∙ (ap (λ a. sides_agree (first_kind vs (parts right)) (first_kind vs (parts a))) second
@@ -105,6 +106,6 @@ module _ (vs : List Value) (m realloc : Bool) (line : ℕ) (kind : Option ValueK
             ∙ (ap (λ o. same_truth realloc (not m && is_allocatable_declare o)) left_first ∙ realloc_fits m realloc (is_allocatable_declare (Some v)) declare none);
         uses = refl;
         judged = judged realloc (region-reached vs right (usable-yielded right_yields u))
-            (λ is. region-reached vs left (yielded-reached left_yields (both _ true (ap not (ap is_allocatable_declare found ∙ (declare ∙ is))) refl)));
+            (λ is. region-reached vs left (yielded-reached left_yields (and_from _ true (ap not (ap is_allocatable_declare found ∙ (declare ∙ is))) refl)));
       })
       (more-regions vs m right (region_of left ∷ []) (right_yields.right m) (more-regions vs m left [] (left_yields.right m) (no-regions vs m)))

@@ -2,6 +2,7 @@
 use Rattle.std.proofs.Common.{◌≡◌, refl, sym, ap, ◌∙◌, subst, ℕ, ◌+◌, ◌*◌, ◌==◌, ◌≤◌, nat_lt, Bool, true, false, not, List, [], ◌∷◌, map, length, All, Option, Some, None, arith}
 use Rattle.std.specs.Prelude.{⊤}
 use Rattle.std.proofs.lemmas.List.{length-map}
+use Rattle.std.proofs.lemmas.Bool.{and_from}
 use mathlib.Core.Former.{Count}
 use Rattle.ws_base.specs.declared.name.Name.{Name}
 use Rattle.ws_tree.specs.declared.expr.Expr.{Expr}
@@ -39,13 +40,14 @@ use Rattle.kind_laws.proofs.TypedExpressions.{types_are_known}
 use Rattle.kind_laws.proofs.Sides.{sides_are_expressions}
 use Rattle.kind_laws.proofs.ScopesKnown.{header_known}
 use Rattle.kind_laws.proofs.ScopesFound.{inside_found, loop_variables_are_found}
-use Rattle.yield_laws.proofs.Right.{both, IsRight, AreRight, op-right}
+use Rattle.yield_laws.proofs.Right.{IsRight, AreRight, op-right}
 use Rattle.kind_laws.proofs.NoFaults.{none_first, none_after, not_broken}
-use Rattle.yield_laws.proofs.Ends.{ops_in-first}
+use Rattle.kind_laws.proofs.Ends.{ops_in-first}
+use Rattle.kind_laws.proofs.TypesTold.{not_other, no_rank}
 use Rattle.yield_laws.proofs.Regions.{no-regions, more-regions, region-reached}
 use Rattle.yield_laws.proofs.Usable.{IsUsable}
 use Rattle.yield_laws.proofs.Walking.{walks-scoped}
-use Rattle.yield_laws.proofs.Typed.{IsOfType, walks-typed, scalar-of, truth-is, rank-none}
+use Rattle.yield_laws.proofs.Typed.{IsOfType, walks-typed, scalar-of}
 use Rattle.yield_laws.proofs.Yielded.{IsYielding, one-yielded, all-yielded, value-yielded, truth-yielded, integers-yielded, yielded-reached, usable-yielded}
 use Rattle.yield_laws.proofs.Headers.{AreIntegers, walks-triple, walks-triples}
 use Rattle.yield_laws.proofs.Scopes.{moved, knows-moved, found-moved}
@@ -81,7 +83,7 @@ module _ (vs : List Value) (line : ℕ) where
         sides = refl;
         realloc = refl;
         uses = refl;
-        judged = both _ _ h.reached (both _ true (block-reached b) refl);
+        judged = and_from _ _ h.reached (and_from _ true (block-reached b) refl);
       })
       (more-regions vs true mask (region_of block ∷ []) (h.right true) (more-regions vs true block [] (block-right b) (no-regions vs true)))
 
@@ -96,7 +98,7 @@ module _ (vs : List Value) (line : ℕ) where
         sides = refl;
         realloc = refl;
         uses = refl;
-        judged = both _ _ h.reached (both _ _ (block-reached b) (both _ true (block-reached c) refl));
+        judged = and_from _ _ h.reached (and_from _ _ (block-reached b) (and_from _ true (block-reached c) refl));
       })
       (more-regions vs true mask (region_of block ∷ region_of rest ∷ []) (h.right true)
       (more-regions vs true block (region_of rest ∷ []) (block-right b) (more-regions vs true rest [] (block-right c) (no-regions vs true))))
@@ -111,7 +113,7 @@ module _ (vs : List Value) (line : ℕ) where
         sides = refl;
         realloc = refl;
         uses = refl;
-        judged = both _ true (block-reached b) refl;
+        judged = and_from _ true (block-reached b) refl;
       })
       (more-regions vs true block [] (block-right b) (no-regions vs true))
 
@@ -125,7 +127,7 @@ module _ (vs : List Value) (line : ℕ) where
         sides = refl;
         realloc = refl;
         uses = refl;
-        judged = both _ _ h.reached (both _ true (block-reached b) refl);
+        judged = and_from _ _ h.reached (and_from _ true (block-reached b) refl);
       })
       (more-regions vs true mask (region_of block ∷ []) (h.right true) (more-regions vs true block [] (block-right b) (no-regions vs true)))
 
@@ -138,11 +140,11 @@ module _ (vs : List Value) (line : ℕ) where
         other = refl;
         yields =
             ap (yields_header vs names) (ops_in-first header (region_of body ∷ []))
-            ∙ both _ _ (both _ _ (integers-yielded y h.integers) some) (ap (λ l. length l == length names * 3) y.parts ∙ (ap (λ k. k == length names * 3) h.many ∙ same (length names * 3)));
+            ∙ and_from _ _ (and_from _ _ (integers-yielded y h.integers) some) (ap (λ l. length l == length names * 3) y.parts ∙ (ap (λ k. k == length names * 3) h.many ∙ same (length names * 3)));
         sides = refl;
         realloc = refl;
         uses = refl;
-        judged = both _ _ (region-reached vs header (yielded-reached y h.reached)) (both _ true (block-reached b) refl);
+        judged = and_from _ _ (region-reached vs header (yielded-reached y h.reached)) (and_from _ true (block-reached b) refl);
       })
       (more-regions vs true header (region_of body ∷ []) (y.right true) (more-regions vs true body [] (block-right b) (no-regions vs true)))
     where
@@ -156,11 +158,11 @@ module _ (vs : List Value) (line : ℕ) where
       op-right vs m what.DoLoop line (v ∷ []) None (region_of header ∷ region_of body ∷ [])
       (record {
         other = refl;
-        yields = ap (yields_triplet vs) (ops_in-first header (region_of body ∷ [])) ∙ both _ _ (integers-yielded y h.integers) (ap (λ l. length l == 3) y.parts ∙ ap (λ k. k == 3) h.many);
+        yields = ap (yields_triplet vs) (ops_in-first header (region_of body ∷ [])) ∙ and_from _ _ (integers-yielded y h.integers) (ap (λ l. length l == 3) y.parts ∙ ap (λ k. k == 3) h.many);
         sides = refl;
         realloc = refl;
-        uses = both _ true (ap not var) refl;
-        judged = both _ _ (region-reached vs header (yielded-reached y h.reached)) (both _ true (block-reached b) refl);
+        uses = and_from _ true (ap not var) refl;
+        judged = and_from _ _ (region-reached vs header (yielded-reached y h.reached)) (and_from _ true (block-reached b) refl);
       })
       (more-regions vs m header (region_of body ∷ []) (y.right m) (more-regions vs m body [] (block-right b) (no-regions vs m)))
 
@@ -174,7 +176,7 @@ module _ (vs : List Value) (line : ℕ) where
         sides = refl;
         realloc = refl;
         uses = refl;
-        judged = both _ true (block-reached b) refl;
+        judged = and_from _ true (block-reached b) refl;
       })
       (more-regions vs m body [] (block-right b) (no-regions vs m))
 
@@ -188,7 +190,7 @@ module _ (vs : List Value) (line : ℕ) where
         sides = refl;
         realloc = refl;
         uses = refl;
-        judged = both _ true (region-reached vs ops (usable-yielded y u)) refl;
+        judged = and_from _ true (region-reached vs ops (usable-yielded y u)) refl;
       })
       (more-regions vs m ops [] (y.right m) (no-regions vs m))
 
@@ -267,7 +269,7 @@ walks-test vs t line s knows scope m n (Some e) h f =
     (walks-typed vs t true line s' (knows-moved t s s.masked s.line knows) (found-moved vs s s.masked s.line scope) e (sides_are_expressions t true line e h none) none j) held in
     let mask : scalar_mask_faults line (Some ty.0) ≡ [] = ap (scalar_mask_faults line) (sym ty.1) ∙ none_after _ _ f in
     test-right vs s.line m _ one.made one.yielding one.passes.usable
-    (scalar-of ty.0 true one.made.kind one.passes.type one.passes.usable.solid (truth-is true ty.0 (not_broken _ _ _ (none_first _ _ mask))) (rank-none ty.0 (not_broken _ _ _ (none_after _ _ mask))))))
+    (scalar-of ty.0 true one.made.kind one.passes.type one.passes.usable.solid (not_other true ty.0 (not_broken _ _ _ (none_first _ _ mask))) (no_rank ty.0 (not_broken _ _ _ (none_after _ _ mask))))))
 
 module _ (vs : List Value) (t : List Row) (line : ℕ) (s : Scope) (knows : Knows t s) (scope : ScopeIsFound vs s) where
   abbrev index_names : List Index → List Name

@@ -1,8 +1,9 @@
--- The declares of a source stand first, with different names, and are found among the values.
-use Rattle.std.proofs.Common.{◌≡◌, refl, ap, ◌∙◌, subst, ℕ, suc, ◌+◌, Bool, true, false, not, ◌&&◌, ◌||◌, List, [], ◌∷◌, ◌++◌, map, All, Option, Some, None, bytes_eq, arith}
+-- The declares of a source stand first, with different names.
+use Rattle.std.proofs.Common.{◌≡◌, refl, ap, ◌∙◌, ℕ, suc, ◌+◌, Bool, true, false, not, ◌&&◌, ◌||◌, List, [], ◌∷◌, ◌++◌, map, All, Option, Some, None, bytes_eq, sym}
 use Rattle.std.specs.List.{list_all, list_any}
 use Rattle.std.proofs.lemmas.List.Elements.{All-nil, All-cons, All-append, All-same}
 use Rattle.std.proofs.lemmas.List.Folds.{list_all-append}
+use Rattle.std.proofs.lemmas.Bool.{and_from, or_right}
 use Rattle.ws_base.specs.declared.name.Name.{Name}
 use Rattle.ws_tree.specs.declared.expr.Expr.{Expr}
 use Rattle.ws_tree.specs.declared.stmt.Decl.{Decl}
@@ -13,45 +14,24 @@ use Rattle.hlfir_ops.specs.declared.what.What.TheVariants as what
 use Rattle.hlfir_ops.specs.declared.op.Op.{Op, Op-F, out-Op, out-roll-Op}
 use Rattle.hlfir_ops.specs.declared.op.Region.{Region}
 use Rattle.hlfir_ops.specs.Trees.{op_of}
-use Rattle.hlfir_ops.specs.Numbers.{own_numbers, op_numbers, numbers_of}
+use Rattle.hlfir_ops.specs.Numbers.{own_numbers, op_numbers}
 use Rattle.hlfir_ops.specs.RulesValues.{Value}
 use Rattle.hlfir_ops.specs.RulesPlaces.{Around, Place, Site, own_defined, sites_of, sites_in, op_sites}
 use Rattle.hlfir_ops.specs.RulesStatements.{is_declare, declares, is_named, declares_name, declares_first, may_take_allocatable, no_allocatable, yields_no_allocatable, regions_judged}
 use Rattle.hlfir_ops.specs.Rules.{yields_of, sides_of, realloc_of, declares_fit}
-use Rattle.hlfir_ops.proofs.Numbered.{op_numbers-op_of}
-use Rattle.lower_assign.specs.declared.names.Variable.{Variable}
 use Rattle.lower_assign.specs.Known.{declares_variable, if_variable, variable_decls, variable, numbered}
-use Rattle.lower_assign.specs.Scopes.{Scope}
-use Rattle.lower_assign.specs.Lowerings.{done, ◌>>=◌, in_turn, giving}
+use Rattle.lower_assign.specs.Lowerings.{done, ◌>>=◌, giving}
 use Rattle.lower_constructs.specs.Modules.{declaration}
-use Rattle.kind_laws.specs.Found.{Holds, DeclareIsFound}
 use Rattle.kind_laws.proofs.Sited.{op_sites-parts}
 use Rattle.kind_laws.proofs.NoFaults.{none_first, none_after, not_broken, left_false, right_false}
-use Rattle.yield_laws.proofs.Right.{both, either_second, Keeps}
-use Rattle.kind_laws.proofs.Finding.{holds_after, own_value}
-
-abbrev pub declare_op : ℕ → Variable → Op
-declare_op line v = op_of (what.Declare v.name) line [] (Some v.declare.kind) []
+use Rattle.yield_laws.proofs.Right.{Keeps}
+use Rattle.kind_laws.proofs.DeclaresFound.{declare_op, GivesDeclares}
+use Rattle.kind_laws.proofs.ConstantsKnown.{declared_more}
 
 -- what the declarations of a source become
-pub declarations-ops : (variables : List Variable) (k n : ℕ) (s : Scope) → (in_turn declaration k variables s n).ops ≡ map (declare_op s.line) variables
-unfolding in_turn declaration giving done ◌>>=◌
-declarations-ops [] k n s = refl
-declarations-ops (v ∷ variables) k n s = ap (λ ops. declare_op s.line v ∷ ops) (declarations-ops variables (suc k) (n + numbers_of (declare_op s.line v ∷ [])) s)
-
--- ---- each is found
-
-one_number : (line : ℕ) (v : Variable) → numbers_of (declare_op line v ∷ []) ≡ 1
-one_number line v = omega (arith, op_numbers-op_of (what.Declare v.name) line [] (Some v.declare.kind) [])
-
-pub declares-found : (vs : List Value) (line n : ℕ) (cs : List Constant) (ds : List Decl) → Holds vs n (map (declare_op line) (numbered n cs ds)) → All (DeclareIsFound vs) (numbered n cs ds)
-declares-found vs line n cs [] h = All-nil (DeclareIsFound vs)
-declares-found vs line n cs (d ∷ ds) h =
-    let v = variable n cs d in
-    let ops = map (declare_op line) (numbered (suc n) cs ds) in
-    let next : n + numbers_of (declare_op line v ∷ []) ≡ suc n = omega (arith, one_number line v) in
-    let rest : Holds vs (suc n) ops = subst (λ k. Holds vs k ops) next (holds_after vs _ (declare_op line v ∷ []) ops h) in
-    All-cons (DeclareIsFound vs) v (numbered (suc n) cs ds) (own_value vs _ (what.Declare v.name) line [] v.declare.kind [] ops h) (declares-found vs line (suc n) cs ds rest)
+pub gives_declares : GivesDeclares declaration
+unfolding declaration giving done ◌>>=◌
+gives_declares k v s n = refl
 
 -- ---- each keeps the rules
 
@@ -67,7 +47,7 @@ module _ (vs : List Value) where
         realloc = ap (λ (g : Op-F Op Region). realloc_of p.around.masked vs g.what g.regions) e;
         declares =
             ap (λ (g : Op-F Op Region). (not p.around.own || declares_first p.before g.what) && ((may_take_allocatable g.what || no_allocatable vs g.operands) && list_all (yields_no_allocatable vs) (regions_judged g.what g.regions))) e
-            ∙ both _ true (either_second (not p.around.own) _ h) refl;
+            ∙ and_from _ true (or_right (not p.around.own) _ h) refl;
       }
 
   declare_sites : (p : Place) (line : ℕ) (name : Name) (kind : Option ValueKind) → (list_all declares p.before && not (list_any (is_named name) p.before)) ≡ true → All (Keeps vs) (op_sites p (op_of (what.Declare name) line [] kind []))
@@ -83,12 +63,7 @@ abbrev Hides : List Decl → List Op → Type 0
 Hides ds ops = (x : Name) → is_declared ds x ≡ false → list_any (is_named x) ops ≡ false
 
 declared_push : (ds : List Decl) (d : Decl) (x : Name) → is_declared (ds ++ d ∷ []) x ≡ false → (is_declared ds x ≡ false) × (bytes_eq d.name x ≡ false)
-declared_push [] d x h = (refl, left_false _ _ h)
-declared_push (e ∷ ds) d x h = let rest = declared_push ds d x (right_false _ _ h) in (neither _ _ (left_false _ _ h) rest.0, rest.1)
-  where
-    neither : (a b : Bool) → a ≡ false → b ≡ false → (a || b) ≡ false
-    neither true b h k = h
-    neither false b h k = k
+declared_push ds d x h = let parts = sym (declared_more ds d x) ∙ h in (left_false _ _ parts, right_false _ _ parts)
 
 any_push : (test : Op → Bool) (ops : List Op) (op : Op) → list_any test ops ≡ false → test op ≡ false → list_any test (ops ++ op ∷ []) ≡ false
 any_push test [] op h g = ap (λ b. b || false) g
@@ -107,7 +82,7 @@ declares_push : (ops : List Op) (line : ℕ) (name : Name) (kind : Option ValueK
 declares_push ops line name kind h =
     let f : Op-F Op Region = record { what = what.Declare name; line = line; operands = []; kind = kind; regions = [] } in
     let op = op_of (what.Declare name) line [] kind [] in
-    list_all-append declares ops (op ∷ []) ∙ both _ _ h (both _ true (ap (λ (g : Op-F Op Region). is_declare g.what) (out-roll-Op f)) refl)
+    list_all-append declares ops (op ∷ []) ∙ and_from _ _ h (and_from _ true (ap (λ (g : Op-F Op Region). is_declare g.what) (out-roll-Op f)) refl)
 
 undeclared : (bs : List Decl) (known : List Constant) (d : Decl) (ds : List Decl) → decls_faults bs known (d ∷ ds) ≡ [] → is_declared bs d.name ≡ false
 unfolding heading_faults
@@ -128,5 +103,5 @@ declares-kept vs line cs (x ∷ ds) bs known f ops h hides a k n d =
         let v = variable k cs x in
         let op = declare_op line v in
         All-append (Keeps vs) _ _
-        (declare_sites vs (record { around = a; before = ops; number = n; defined = d }) line x.name (Some v.declare.kind) (both _ _ h (ap not (hides x.name (undeclared bs known x ds f)))))
+        (declare_sites vs (record { around = a; before = ops; number = n; defined = d }) line x.name (Some v.declare.kind) (and_from _ _ h (ap not (hides x.name (undeclared bs known x ds f)))))
         (rest (ops ++ op ∷ []) (hides_push bs x ops line (Some v.declare.kind) hides) (declares_push ops line x.name (Some v.declare.kind) h) (suc k) (op_numbers op + n) (d ++ own_defined n (out-Op op).kind))

@@ -2,6 +2,7 @@
 use Rattle.std.proofs.Common.{◌≡◌, refl, sym, ap, ◌∙◌, subst, ℕ, ◌+◌, ◌==◌, max, Bool, true, false, not, ◌&&◌, ◌||◌, List, [], ◌∷◌, ◌++◌, length, All, Option, Some, None, arith, append_assoc, true≢false, if◌then◌else◌}
 use Rattle.std.specs.List.{list_all, list_any}
 use Rattle.std.proofs.lemmas.List.Elements.{All-nil, All-cons, All-head, All-tail, All-weaker, All-push}
+use Rattle.std.proofs.lemmas.Bool.{and_from, or_left, or_right}
 use Rattle.hlfir_ops.specs.declared.kinds.Elem.{Elem}
 use Rattle.hlfir_ops.specs.declared.kinds.ValueKind.{ValueKind}
 use Rattle.hlfir_ops.specs.declared.kinds.ValueKind.TheVariants.{Scalar}
@@ -20,9 +21,9 @@ use Rattle.lower_assign.specs.Scopes.{Scope}
 use Rattle.lower_assign.specs.Lowerings.{Lowering, done, ◌>>=◌, giving, acting}
 use Rattle.lower_assign.specs.Operations.{values_of, rank_from, arranged, on_scalars, at_position, at_positions, element}
 use Rattle.kind_laws.specs.Found.{Holds, Found}
-use Rattle.yield_laws.proofs.Right.{both, either_first, either_second, IsRight, AreRight}
+use Rattle.yield_laws.proofs.Right.{IsRight, AreRight}
 use Rattle.kind_laws.proofs.Finding.{holds_first, holds_after}
-use Rattle.yield_laws.proofs.Ends.{is_last-push, front_of-push, parts-push}
+use Rattle.kind_laws.proofs.Ends.{is_last-push, front_of-push, parts-push}
 use Rattle.yield_laws.proofs.Usable.{IsUsable, is_plain, usable-reached, more-reached, all-reached, plain-right, given-usable}
 use Rattle.yield_laws.proofs.Walking.{Walks, walks-done, walks-then, walks-giving, walks-if}
 
@@ -77,16 +78,16 @@ any_front test [] ys h = absurd (true≢false (sym h))
 any_front test (x ∷ xs) ys h = here (test x) refl (any_front test xs ys)
   where
     here : (b : Bool) → test x ≡ b → (list_any test xs ≡ true → list_any test (xs ++ ys) ≡ true) → (test x || list_any test (xs ++ ys)) ≡ true
-    here true is f = either_first _ _ is
-    here false is f = either_second (test x) _ (f (sym (ap (λ b. b || list_any test xs) is) ∙ h))
+    here true is f = or_left _ _ is
+    here false is f = or_right (test x) _ (f (sym (ap (λ b. b || list_any test xs) is) ∙ h))
 
 any_back : (test : Op → Bool) (xs ys : List Op) → list_any test ys ≡ true → list_any test (xs ++ ys) ≡ true
 any_back test [] ys h = h
-any_back test (x ∷ xs) ys h = either_second (test x) _ (any_back test xs ys h)
+any_back test (x ∷ xs) ys h = or_right (test x) _ (any_back test xs ys h)
 
 all_work : (vs : List Value) (ops : List Op) → All (IsElement vs) ops → list_all works_on_elements ops ≡ true
 all_work vs [] h = refl
-all_work vs (op ∷ ops) h = both _ _ (All-head (IsElement vs) op ops h).0 (all_work vs ops (All-tail (IsElement vs) op ops h))
+all_work vs (op ∷ ops) h = and_from _ _ (All-head (IsElement vs) op ops h).0 (all_work vs ops (All-tail (IsElement vs) op ops h))
 
 pub elements-right : (vs : List Value) (m : Bool) (ops : List Op) → All (IsElement vs) ops → AreRight vs m ops
 elements-right vs m ops h = All-weaker (IsElement vs) (IsRight vs m) (λ op g. g.1 m) ops h
@@ -100,7 +101,7 @@ pub record IsBody (vs : List Value) (ops : List Op) : Type 0 where
 module _ (vs : List Value) (s : Scope) where
   apply_element : (x : Operand) → IsUsable vs x → IsElement vs (op_of what.Apply s.line (x.value ∷ []) (Some (Scalar (elem_of x.kind))) [])
   apply_element x u = (
-    either_first _ _ (ap is_apply (what-is what.Apply s.line (x.value ∷ []) (Some (Scalar (elem_of x.kind))) [])),
+    or_left _ _ (ap is_apply (what-is what.Apply s.line (x.value ∷ []) (Some (Scalar (elem_of x.kind))) [])),
     λ m. plain-right vs m what.Apply s.line (x.value ∷ []) (Some (Scalar (elem_of x.kind))) refl (more-reached vs x.value [] (usable-reached u) refl),
   )
 
@@ -127,7 +128,7 @@ module _ (vs : List Value) (s : Scope) where
   unfolding at_position giving position
   applied_first k x h =
       ap (λ b. list_any applies (position b x s k).ops) h
-      ∙ either_first _ _ (ap is_apply (what-is what.Apply s.line (x.value ∷ []) (Some (Scalar (elem_of x.kind))) []))
+      ∙ or_left _ _ (ap is_apply (what-is what.Apply s.line (x.value ∷ []) (Some (Scalar (elem_of x.kind))) []))
 
   none_greater : (a b : ℕ) → (a == 0) ≡ true → (b == 0) ≡ true → (max a b == 0) ≡ true
   none_greater a b h g = grind (arith, h, g)
@@ -156,8 +157,8 @@ module _ (vs : List Value) (s : Scope) where
     unfolding made_op
     operation_element ys us =
         let os = arranged w (values_of ys) in (
-          either_second _ _ (ap is_operation (what-is w s.line os (Some (Scalar e)) []) ∙ op),
-          λ m. plain-right vs m w s.line os (Some (Scalar e)) (operation_plain w op) (either_second _ _ (arranged-reached vs w (values_of ys) (all-reached vs ys us))),
+          or_right _ _ (ap is_operation (what-is w s.line os (Some (Scalar e)) []) ∙ op),
+          λ m. plain-right vs m w s.line os (Some (Scalar e)) (operation_plain w op) (or_right _ _ (arranged-reached vs w (values_of ys) (all-reached vs ys us))),
         )
 
     last_yield : ℕ → Op
@@ -183,13 +184,13 @@ module _ (vs : List Value) (s : Scope) where
         given-usable vs z w s.line (arranged w (values_of at.made)) (Scalar e) [] [] (operation_value w op) refl (holds_after vs _ at.ops (made ∷ []) held_front) in
         let yielded : parts (front ++ last_yield z ∷ []) ≡ record { number = z } ∷ [] = parts-push what.YieldElement s.line (record { number = z } ∷ []) front refl in
         let fr : front_of (front ++ last_yield z ∷ []) ≡ front = front_of-push front (last_yield z) in
-        let works : list_any operates front ≡ true = any_back operates at.ops (made ∷ []) (either_first _ _ (ap is_operation (what-is w s.line (arranged w (values_of at.made)) (Some (Scalar e)) []) ∙ op)) in
+        let works : list_any operates front ≡ true = any_back operates at.ops (made ∷ []) (or_left _ _ (ap is_operation (what-is w s.line (arranged w (values_of at.made)) (Some (Scalar e)) []) ∙ op)) in
         subst (IsBody vs) (sym (element-ops k xs))
         (record {
           right = λ m. All-push (IsRight vs m) front (last_yield z) (elements-right vs m front elements)
               (plain-right vs m what.YieldElement s.line (record { number = z } ∷ []) None refl refl);
           yields =
-              both _ _ (both _ _ (both _ _ (both _ _ (both _ _ (is_last-push what.YieldElement s.line (record { number = z } ∷ []) is_yield_element front)
+              and_from _ _ (and_from _ _ (and_from _ _ (and_from _ _ (and_from _ _ (is_last-push what.YieldElement s.line (record { number = z } ∷ []) is_yield_element front)
               (ap (list_all works_on_elements) fr ∙ all_work vs front elements))
               (ap (list_any applies) fr ∙ any_front applies at.ops (made ∷ []) (some_applied k 0 xs refl some)))
               (ap (list_any operates) fr ∙ works))

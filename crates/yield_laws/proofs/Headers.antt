@@ -4,6 +4,7 @@ use Rattle.std.specs.List.{list_all}
 use Rattle.std.proofs.lemmas.List.{length-append}
 use Rattle.std.proofs.lemmas.List.Elements.{All-head, All-tail}
 use Rattle.std.proofs.lemmas.List.Folds.{list_all-append}
+use Rattle.std.proofs.lemmas.Bool.{and_from}
 use Rattle.ws_base.specs.declared.refusal.RefusalKind.TheVariants as refusal
 use Rattle.ws_tree.specs.declared.expr.Expr.{Expr}
 use Rattle.ws_tree.specs.declared.stmt.Bound.{Bound}
@@ -31,7 +32,6 @@ use Rattle.kind_laws.specs.Standing.{Knows}
 use Rattle.kind_laws.specs.Found.{ScopeIsFound}
 use Rattle.kind_laws.proofs.TypedExpressions.{types_are_known}
 use Rattle.kind_laws.proofs.Sides.{sides_are_expressions}
-use Rattle.yield_laws.proofs.Right.{both}
 use Rattle.kind_laws.proofs.NoFaults.{none_first, none_after, impossible}
 use Rattle.yield_laws.proofs.Usable.{IsUsable, IsValue, usable-reached, more-reached, reached-append}
 use Rattle.yield_laws.proofs.Walking.{Walks, walks-done, walks-then}
@@ -55,14 +55,14 @@ no-integers vs = record { integers = refl; reached = refl; many = refl }
 
 pub more-integers : (vs : List Value) (n : ℕ) (x : Operand) (os : List ValueId) → IsInteger vs x → AreIntegers vs n os → AreIntegers vs (n + 1) (x.value ∷ os)
 more-integers vs n x os h g = record {
-  integers = both _ _ (ap (is_scalar I32) (kind-found h.usable.found) ∙ h.integer) g.integers;
+  integers = and_from _ _ (ap (is_scalar I32) (kind-found h.usable.found) ∙ h.integer) g.integers;
   reached = more-reached vs x.value os (usable-reached h.usable) g.reached;
   many = let rest = g.many in omega (arith, rest);
 }
 
 pub integers-append : (vs : List Value) (m n : ℕ) (xs ys : List ValueId) → AreIntegers vs m xs → AreIntegers vs n ys → AreIntegers vs (m + n) (xs ++ ys)
 integers-append vs m n xs ys h g = record {
-  integers = list_all-append (is_integer vs) xs ys ∙ both _ _ h.integers g.integers;
+  integers = list_all-append (is_integer vs) xs ys ∙ and_from _ _ h.integers g.integers;
   reached = reached-append vs xs ys h.reached g.reached;
   many = length-append xs ys ∙ (ap (λ k. k + length ys) h.many ∙ ap (λ k. m + k) g.many);
 }

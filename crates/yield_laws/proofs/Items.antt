@@ -34,6 +34,7 @@ use Rattle.kind_laws.proofs.TypedExpressions.{type_known}
 use Rattle.kind_laws.proofs.ExpressionsMade.{value_made}
 use Rattle.kind_laws.proofs.NoFaults.{none_first, none_after, left_false, right_false}
 use Rattle.kind_laws.proofs.Finding.{own_value}
+use Rattle.kind_laws.proofs.TypesTold.{not_above}
 use Rattle.yield_laws.proofs.Usable.{IsUsable, IsValue}
 use Rattle.yield_laws.proofs.Walking.{Walks}
 use Rattle.yield_laws.proofs.Values.{IsReachedBy, walks-designated, part-steps-by, walks-subscripts}
@@ -49,9 +50,6 @@ none_vector (x ∷ xs) h = ap (λ b. b || list_any is_vector (map sub_kind xs)) 
 single_of : (x : Operand) → rank_of x.kind ≡ 0 → IsSingle (subscript_of x)
 single_of x none = let is : (rank_of x.kind == 0) ≡ true = grind (arith, none) in ap (λ b. is_vector (sub_kind (if b then One x.value else Vector x.value))) is
 
-no_rank : (n : ℕ) → nat_lt 0 n ≡ false → n ≡ 0
-no_rank n h = grind (arith, h)
-
 module _ (t : List Row) (inside : Bool) where
   before_subscript : (c : Subscripts) (o : Option Typed) → (with_subscript c o).vectors ≡ false → c.vectors ≡ false
   before_subscript c None h = h
@@ -63,7 +61,7 @@ module _ (t : List Row) (inside : Bool) where
   before_all (more_subs (sub.Range' l u st) ss) c h = before_all ss (types.with_sub t inside c (sub.Range' l u st)) h
 
   scalar_subscript : (c : Subscripts) (o : Option Typed) (ty : Typed) → o ≡ Some ty → (with_subscript c o).vectors ≡ false → ty.rank ≡ 0
-  scalar_subscript c o ty is h = no_rank ty.rank (right_false c.vectors (nat_lt 0 ty.rank) (ap (λ q. (with_subscript c q).vectors) (sym is) ∙ h))
+  scalar_subscript c o ty is h = not_above ty.rank (right_false c.vectors (nat_lt 0 ty.rank) (ap (λ q. (with_subscript c q).vectors) (sym is) ∙ h))
 
   module _ (line : ℕ) (s : Scope) (knows : Knows t s) where
     next_single : {m : Count} (r : Operand) (dim : ℕ) (x : _) (ss : Subs m) → Makes s IsSingle (subscript r dim x) → Makes s (All IsSingle) (subscripts r (suc dim) ss) → Makes s (All IsSingle) (subscripts r dim (more_subs x ss))

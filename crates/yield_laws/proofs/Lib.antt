@@ -1,11 +1,9 @@
 pub mod Right
-pub mod Ends
 pub mod Usable
 pub mod Walking
 pub mod Elements
 pub mod Regions
 pub mod Operations
-pub mod Refused
 pub mod Names
 pub mod Values
 pub mod Typed
@@ -17,7 +15,6 @@ pub mod Assignments
 pub mod Items
 pub mod Holders
 pub mod Plain
-pub mod Grammar
 pub mod Constructs
 pub mod Statements
 pub mod Declares

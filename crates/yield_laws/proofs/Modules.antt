@@ -1,7 +1,8 @@
 -- Each op of an accepted source's module keeps the rules on yields, sides and declares.
-use Rattle.std.proofs.Common.{◌≡◌, refl, sym, subst, ◌+◌, Bool, true, false, List, [], ◌∷◌, ◌++◌, map, All, append-nil}
+use Rattle.std.proofs.Common.{◌≡◌, refl, sym, subst, ◌+◌, Bool, true, false, List, [], ◌∷◌, ◌++◌, map, All}
 use Rattle.std.specs.List.{list_all}
-use Rattle.std.proofs.lemmas.List.Elements.{All-nil, All-head, All-tail, All-append, All-same, All-weaker}
+use Rattle.std.proofs.lemmas.List.Elements.{All-head, All-tail, All-append, All-same, All-weaker}
+use Rattle.std.proofs.lemmas.Bool.{and_from}
 use Rattle.ws_tree.specs.declared.stmt.Tree.{Tree}
 use Rattle.ws_sema.specs.declared.within.Within.TheVariants.{Outside}
 use Rattle.ws_sema.specs.Checks.{IsAccepted}
@@ -16,16 +17,18 @@ use Rattle.lower_assign.specs.Known.{names_of, variable_decls, numbered}
 use Rattle.lower_assign.specs.Lowerings.{◌>>=◌, in_turn}
 use Rattle.lower_constructs.specs.Modules.{declaration, statement_list, lowered}
 use Rattle.lower_constructs.specs.Sites.{Test, passes, EveryOpPasses}
-use Rattle.kind_laws.specs.Found.{Holds, IndexIsFound, ScopeIsFound}
+use Rattle.kind_laws.specs.Found.{Holds, ScopeIsFound}
 use Rattle.kind_laws.proofs.Sited.{sites_of-append, defined_by}
 use Rattle.kind_laws.proofs.NamesKnown.{names_are_known}
 use Rattle.yield_laws.specs.Laws.{YieldsAreOfTheirForms, SidesAgree, ReallocsAreOfWholes, DeclaresFit}
 use Rattle.kind_laws.proofs.NoFaults.{none_first, none_after}
-use Rattle.yield_laws.proofs.Right.{both, Keeps, sites-right}
+use Rattle.yield_laws.proofs.Right.{Keeps, sites-right}
 use Rattle.kind_laws.proofs.Finding.{holds_first, holds_after}
+use Rattle.kind_laws.proofs.DeclaresFound.{declare_op, declares-ops, outermost_found}
+use Rattle.kind_laws.proofs.Held.{held-whole}
 use Rattle.yield_laws.proofs.Holders.{statements-right}
 use Rattle.yield_laws.proofs.Statements.{walks-statements}
-use Rattle.yield_laws.proofs.Declares.{declare_op, declarations-ops, declares-found, declares-kept}
+use Rattle.yield_laws.proofs.Declares.{gives_declares, declares-kept}
 
 module _ (t : Tree) (accepted : IsAccepted t) where
   abbrev scope : Scope
@@ -41,16 +44,13 @@ module _ (t : Tree) (accepted : IsAccepted t) where
   values = values_of (declares ++ statements)
 
   held : Holds values 0 (declares ++ statements)
-  held = record { before = []; after = []; whole = sym (append-nil values); count = refl }
+  held = held-whole (declares ++ statements)
 
   declares_are : declares ≡ map (declare_op scope.line) (numbered 0 (constants_after [] t.decls) (variable_decls t.decls))
-  declares_are = declarations-ops (names_of t).variables 0 0 scope
+  declares_are = declares-ops declaration gives_declares (names_of t).variables 0 0 scope
 
   found : ScopeIsFound values scope
-  found = record {
-    variables = declares-found values scope.line 0 (constants_after [] t.decls) (variable_decls t.decls) (subst (Holds values 0) declares_are (holds_first values _ declares statements held));
-    indexes = All-nil (IndexIsFound values);
-  }
+  found = outermost_found declaration gives_declares values t (holds_first values _ declares statements held)
 
   declare_sites : All (Keeps values) (sites_of outermost [] 0 [] declares)
   declare_sites = subst (λ ops. All (Keeps values) (sites_of outermost [] 0 [] ops)) (sym declares_are)
@@ -73,7 +73,7 @@ module _ (t : Tree) (accepted : IsAccepted t) where
 
 all_pass : (test : Site → Bool) (sites : List Site) → All (λ s. test s ≡ true) sites → list_all test sites ≡ true
 all_pass test [] h = refl
-all_pass test (s ∷ sites) h = both _ _ (All-head (λ s. test s ≡ true) s sites h) (all_pass test sites (All-tail (λ s. test s ≡ true) s sites h))
+all_pass test (s ∷ sites) h = and_from _ _ (All-head (λ s. test s ≡ true) s sites h) (all_pass test sites (All-tail (λ s. test s ≡ true) s sites h))
 
 every : (test : Test) → ((t : Tree) (s : Site) → Keeps (facts_of (lowered t)).values s → passes test (facts_of (lowered t)) s ≡ true) → EveryOpPasses test
 every test f t accepted =

@@ -1,6 +1,7 @@
 -- Operations on usable operands are right, and what they make is usable.
 use Rattle.std.proofs.Common.{◌≡◌, refl, ap, ◌∙◌, ℕ, ◌+◌, ◌==◌, nat_lt, Bool, true, false, List, [], ◌∷◌, length, All, Option, Some, None, ℤ, arith}
 use Rattle.std.proofs.lemmas.List.Elements.{All-nil, All-cons}
+use Rattle.std.proofs.lemmas.Bool.{and_from, or_right}
 use Rattle.ws_base.specs.declared.op.UnOp.{UnOp}
 use Rattle.ws_base.specs.declared.op.UnOp.TheVariants as un
 use Rattle.ws_base.specs.declared.op.CallWord.{CallWord}
@@ -27,8 +28,8 @@ use Rattle.lower_assign.specs.Lowerings.{Lowering, giving_by}
 use Rattle.lower_assign.specs.Operations.{constant, values_of, rank_from, arranged, on_scalars, element, at_each, operation, binary_operation, value_of_whole, in_parentheses, unary_operation, reduction_of, what_of, call_elem, first_elem, total_or, call_on, vector}
 use Rattle.kind_laws.specs.Found.{RegionsHeld}
 use Rattle.kind_laws.proofs.ScopesFound.{regions_are_held}
-use Rattle.yield_laws.proofs.Right.{both, either_second, IsRight, op-right}
-use Rattle.yield_laws.proofs.Ends.{ops_in-first}
+use Rattle.yield_laws.proofs.Right.{IsRight, op-right}
+use Rattle.kind_laws.proofs.Ends.{ops_in-first}
 use Rattle.yield_laws.proofs.Regions.{no-regions, more-regions, region-reached}
 use Rattle.yield_laws.proofs.Usable.{IsUsable, IsValue, is_solid, usable-reached, more-reached, all-reached, gives-value, given-usable}
 use Rattle.yield_laws.proofs.Walking.{Walks, walks-done, walks-value, walks-if}
@@ -50,14 +51,14 @@ module _ (vs : List Value) (s : Scope) (n : ℕ) where
         sides = refl;
         realloc = refl;
         uses = refl;
-        judged = both _ true (region-reached vs ops b.reached) refl;
+        judged = and_from _ true (region-reached vs ops b.reached) refl;
       })
       (more-regions vs m ops [] (b.right m) (no-regions vs m))
 
   module _ (w : What) (op : is_operation w ≡ true) (e : Elem) (xs : List Operand) (us : All (IsUsable vs) xs) where
     walks-scalars : Walks vs (IsValue vs) s n (on_scalars w e xs) (IsUsable vs)
     unfolding on_scalars
-    walks-scalars = walks-value vs s n w (arranged w (values_of xs)) (Scalar e) (operation_value w op) (operation_plain w op) refl (either_second _ _ (arranged-reached vs w (values_of xs) (all-reached vs xs us)))
+    walks-scalars = walks-value vs s n w (arranged w (values_of xs)) (Scalar e) (operation_value w op) (operation_plain w op) refl (or_right _ _ (arranged-reached vs w (values_of xs) (all-reached vs xs us)))
 
     walks-each : (rank_from 0 xs == 0) ≡ false → Walks vs (IsValue vs) s n (at_each w e (rank_from 0 xs) xs) (IsUsable vs)
     unfolding at_each giving_by

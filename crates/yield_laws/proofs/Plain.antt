@@ -2,7 +2,8 @@
 use Rattle.std.proofs.Common.{◌≡◌, refl, sym, ap, ◌∙◌, ℕ, ◌+◌, ◌*◌, ◌%◌, ◌==◌, nat_lt, Bool, true, false, not, ◌&&◌, List, [], ◌∷◌, ◌++◌, length, All, Some, None}
 use Rattle.std.specs.Prelude.{⊤}
 use Rattle.std.proofs.Math.Nat.{mul-mod_left}
-use Rattle.std.proofs.lemmas.List.Elements.{All-nil, All-cons, All-head, All-tail}
+use Rattle.std.proofs.lemmas.List.Elements.{All-nil, All-cons, All-from_recursion}
+use Rattle.std.proofs.lemmas.Bool.{and_from}
 use Rattle.ws_base.specs.declared.name.Name.{Name}
 use Rattle.ws_tree.specs.declared.expr.Expr.{Expr}
 use Rattle.ws_tree.specs.declared.stmt.Part.{Part}
@@ -30,9 +31,10 @@ use Rattle.kind_laws.specs.Standing.{Knows}
 use Rattle.kind_laws.specs.Found.{ScopeIsFound}
 use Rattle.kind_laws.proofs.TypedExpressions.{types_are_known}
 use Rattle.kind_laws.proofs.Sides.{sides_are_expressions}
-use Rattle.yield_laws.proofs.Right.{both, IsRight, op-right}
+use Rattle.yield_laws.proofs.Right.{IsRight, op-right}
 use Rattle.kind_laws.proofs.NoFaults.{none_first, none_after, not_broken, left_false, right_false}
-use Rattle.yield_laws.proofs.Ends.{ops_in-first}
+use Rattle.kind_laws.proofs.Ends.{ops_in-first}
+use Rattle.kind_laws.proofs.Faultless.{each_faultless}
 use Rattle.yield_laws.proofs.Regions.{no-regions, more-regions, region-reached}
 use Rattle.yield_laws.proofs.Usable.{IsValue, plain-right}
 use Rattle.yield_laws.proofs.Walking.{Walks, walks-scoped}
@@ -127,11 +129,11 @@ module _ (vs : List Value) (t : List Row) (w : Within) (line : ℕ) (s : Scope) 
       op-right vs m (what.Allocmem also) line os None (region_of ops ∷ [])
       (record {
         other = refl;
-        yields = ap (yields_pairs vs) (ops_in-first ops []) ∙ both _ _ (integers-yielded y h.integers) (ap (λ l. length l % 2 == 0) y.parts ∙ pairs_many n (length made) h.many);
+        yields = ap (yields_pairs vs) (ops_in-first ops []) ∙ and_from _ _ (integers-yielded y h.integers) (ap (λ l. length l % 2 == 0) y.parts ∙ pairs_many n (length made) h.many);
         sides = refl;
         realloc = refl;
         uses = refl;
-        judged = both _ true (region-reached vs ops (yielded-reached y h.reached)) refl;
+        judged = and_from _ true (region-reached vs ops (yielded-reached y h.reached)) refl;
       })
       (more-regions vs m ops [] (y.right m) (no-regions vs m))
 
@@ -165,11 +167,11 @@ module _ (vs : List Value) (t : List Row) (w : Within) (line : ℕ) (s : Scope) 
       op-right vs m (what.Read also) line [] None (region_of ops ∷ [])
       (record {
         other = refl;
-        yields = ap (yields_item vs) (ops_in-first ops []) ∙ both _ _ (both _ _ (one-of y) (ap is_target kind ∙ target)) (ap (λ l. not (is_vector_designate (first_value vs l))) y.parts ∙ ap not no_vector);
+        yields = ap (yields_item vs) (ops_in-first ops []) ∙ and_from _ _ (and_from _ _ (one-of y) (ap is_target kind ∙ target)) (ap (λ l. not (is_vector_designate (first_value vs l))) y.parts ∙ ap not no_vector);
         sides = refl;
         realloc = refl;
         uses = refl;
-        judged = both _ true (region-reached vs ops (yielded-reached y (both _ true (ap not (ap is_allocatable_declare found ∙ declare)) refl))) refl;
+        judged = and_from _ true (region-reached vs ops (yielded-reached y (and_from _ true (ap not (ap is_allocatable_declare found ∙ declare)) refl))) refl;
       })
       (more-regions vs m ops [] (y.right m) (no-regions vs m))
 
@@ -201,23 +203,15 @@ module _ (vs : List Value) (t : List Row) (w : Within) (line : ℕ) (s : Scope) 
 
   -- ---- the items of a statement
 
-  allocations-all : (ps : List Part) → All IsPart ps → allocations_faults t line ps ≡ [] → All (λ p. IsPart p × (allocation_faults t line p ≡ [])) ps
-  allocations-all [] h f = All-nil (λ p. IsPart p × (allocation_faults t line p ≡ []))
-  allocations-all (p ∷ ps) h f = All-cons (λ p. IsPart p × (allocation_faults t line p ≡ [])) p ps (All-head IsPart p ps h, none_first _ _ f) (allocations-all ps (All-tail IsPart p ps h) (none_after _ _ f))
-
-  items-all : (es : List Expr) → All IsDesignator es → items_faults t line es ≡ [] → All (λ e. IsDesignator e × (item_faults t line e ≡ [])) es
-  items-all [] h f = All-nil (λ e. IsDesignator e × (item_faults t line e ≡ []))
-  items-all (e ∷ es) h f = All-cons (λ e. IsDesignator e × (item_faults t line e ≡ [])) e es (All-head IsDesignator e es h, none_first _ _ f) (items-all es (All-tail IsDesignator e es h) (none_after _ _ f))
-
   all_names : (xs : List Name) → All (λ _. ⊤) xs
   all_names [] = All-nil (λ _. ⊤)
   all_names (x ∷ xs) = All-cons (λ _. ⊤) x xs tt (all_names xs)
 
   pub walks-allocations : (ps : List Part) → All IsPart ps → allocations_faults t line ps ≡ [] → (n : ℕ) → Statement vs m s n (each_item (allocation line) ps)
-  walks-allocations ps h f n = in-turn vs m s (λ p. IsPart p × (allocation_faults t line p ≡ [])) (λ k. allocation line (nat_lt 0 k)) ps (allocations-all ps h f) (λ k p g j. walks-allocation (nat_lt 0 k) p g.0 g.1 j) 0 n
+  walks-allocations ps h f n = in-turn vs m s (λ p. IsPart p × (allocation_faults t line p ≡ [])) (λ k. allocation line (nat_lt 0 k)) ps (All-from_recursion (λ p. IsPart p × (allocation_faults t line p ≡ [])) ps (each_faultless IsPart (allocation_faults t line) ps h f)) (λ k p g j. walks-allocation (nat_lt 0 k) p g.0 g.1 j) 0 n
 
   pub walks-deallocations : (xs : List Name) (n : ℕ) → Statement vs m s n (each_item (deallocation line) xs)
   walks-deallocations xs n = in-turn vs m s (λ _. ⊤) (λ k. deallocation line (nat_lt 0 k)) xs (all_names xs) (λ k x g j. walks-deallocation (nat_lt 0 k) x j) 0 n
 
   pub walks-readings : (es : List Expr) → All IsDesignator es → items_faults t line es ≡ [] → (n : ℕ) → Statement vs m s n (each_item (reading line) es)
-  walks-readings es h f n = in-turn vs m s (λ e. IsDesignator e × (item_faults t line e ≡ [])) (λ k. reading line (nat_lt 0 k)) es (items-all es h f) (λ k e g j. walks-reading (nat_lt 0 k) e g.0 g.1 j) 0 n
+  walks-readings es h f n = in-turn vs m s (λ e. IsDesignator e × (item_faults t line e ≡ [])) (λ k. reading line (nat_lt 0 k)) es (All-from_recursion (λ e. IsDesignator e × (item_faults t line e ≡ [])) es (each_faultless IsDesignator (item_faults t line) es h f)) (λ k e g j. walks-reading (nat_lt 0 k) e g.0 g.1 j) 0 n

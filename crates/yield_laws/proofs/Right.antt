@@ -2,6 +2,7 @@
 use Rattle.std.proofs.Common.{◌≡◌, refl, sym, ap, ◌∙◌, subst, ℕ, suc, ◌+◌, Bool, true, false, not, ◌&&◌, ◌||◌, List, [], ◌∷◌, ◌++◌, length, All, Option, true≢false}
 use Rattle.std.specs.List.{list_all}
 use Rattle.std.proofs.lemmas.List.Elements.{All-nil, All-cons, All-head, All-tail, All-append, All-same}
+use Rattle.std.proofs.lemmas.Bool.{and_from, or_right}
 use Rattle.hlfir_ops.specs.declared.kinds.ValueKind.{ValueKind}
 use Rattle.hlfir_ops.specs.declared.what.What.{What}
 use Rattle.hlfir_ops.specs.declared.what.What.TheVariants as what
@@ -15,28 +16,6 @@ use Rattle.hlfir_ops.specs.RulesPlaces.{Around, Place, Site, masks, around_in, f
 use Rattle.hlfir_ops.specs.RulesStatements.{is_declare, declares_first, may_take_allocatable, no_allocatable, yields_no_allocatable, regions_judged}
 use Rattle.hlfir_ops.specs.Rules.{yields_of, sides_of, realloc_of, declares_fit}
 use Rattle.kind_laws.proofs.Sited.{op_sites-parts}
-
--- ---- truth values
-
-pub both : (a b : Bool) → a ≡ true → b ≡ true → (a && b) ≡ true
-both true b h g = g
-both false b h g = absurd (true≢false (sym h))
-
-pub first_of : (a b : Bool) → (a && b) ≡ true → a ≡ true
-first_of true b h = refl
-first_of false b h = h
-
-pub second_of : (a b : Bool) → (a && b) ≡ true → b ≡ true
-second_of true b h = h
-second_of false b h = absurd (true≢false (sym h))
-
-pub either_first : (a b : Bool) → a ≡ true → (a || b) ≡ true
-either_first true b h = refl
-either_first false b h = absurd (true≢false (sym h))
-
-pub either_second : (a b : Bool) → b ≡ true → (a || b) ≡ true
-either_second true b h = refl
-either_second false b h = h
 
 -- ---- one op at its place
 
@@ -79,7 +58,7 @@ module _ (vs : List Value) where
     realloc = ap (λ g. realloc_of p.around.masked vs g.what g.regions) e ∙ h.realloc;
     declares =
         ap (λ g. (not p.around.own || declares_first p.before g.what) && ((may_take_allocatable g.what || no_allocatable vs g.operands) && list_all (yields_no_allocatable vs) (regions_judged g.what g.regions))) e
-        ∙ both _ _ (either_second (not p.around.own) _ (not_first p.before f.what h.other)) (both _ _ h.uses h.judged);
+        ∙ and_from _ _ (or_right (not p.around.own) _ (not_first p.before f.what h.other)) (and_from _ _ h.uses h.judged);
   }
 
   pub sites-right : (m : Bool) (ops : List Op) → AreRight vs m ops → (a : Around) → a.masked ≡ m → (before : List Op) (n : ℕ) (d : List ℕ) → All (Keeps vs) (sites_of a before n d ops)

@@ -27,12 +27,12 @@ use Rattle.lower_constructs.specs.Modules.{forall_mask, elsewhere, statement, st
 use Rattle.kind_laws.specs.Standing.{Knows}
 use Rattle.kind_laws.specs.Found.{ScopeIsFound}
 use Rattle.kind_laws.proofs.ScopesKnown.{forall_known, loop_known}
-use Rattle.kind_laws.proofs.NoFaults.{allowed, none_first, none_after, looked_into, impossible}
-use Rattle.yield_laws.proofs.Refused.{not_refused}
+use Rattle.kind_laws.proofs.NoFaults.{none_first, none_after, impossible}
 use Rattle.yield_laws.proofs.Scopes.{moved, knows-moved, found-moved, IsWithin}
 use Rattle.yield_laws.proofs.Holders.{Statement, after, no-statement}
 use Rattle.yield_laws.proofs.Plain.{walks-assignment, walks-allocations, walks-deallocations, walks-readings}
-use Rattle.yield_laws.proofs.Grammar.{no-else, where-parts, forall-parts, loop-parts, shared-parts, allocated-parts, read-parts}
+use Rattle.kind_laws.proofs.Grammar.{no_else, where_parts, forall_parts, loop_parts, shared_parts, allocated_parts, read_parts}
+use Rattle.kind_laws.proofs.Faultless.{where_faultless, else_faultless, forall_faultless, loop_faultless, shared_faultless, allocate_faultless, read_faultless}
 use Rattle.yield_laws.proofs.Constructs.{walks-where, walks-shared, walks-elsewhere, walks-loop, walks-test, walks-forall}
 
 -- ---- places of blocks
@@ -68,44 +68,38 @@ module _ (vs : List Value) where
         Statement vs m s n (statement line body)
     walks-body k room t w line (Assign left right) h f s knows scope m in_ n = walks-assignment vs t w line s knows scope m left right h.0 h.1 f in_ n
     walks-body k room t w line (Masked' mask c block d rest) h f s knows scope m in_ n =
-        let parts = where-parts k room line mask c block d rest h in
-        let all = looked_into (is_inside w) line kind.Unsupported _ f in
-        let test = none_first _ _ all in
-        walks-where vs t line s knows scope m n mask parts.0 (none_first _ _ (none_first _ _ test)) (statements block)
-        (λ i j. walks-block parts.1.place parts.1.room t (under t line mask) block parts.1.stands (none_after _ _ test) (inside what.Masked line 1 i s) (knows-moved t s true line knows) (found-moved vs s true line scope) true
+        let parts = where_parts k room line mask c block d rest h in
+        let right = where_faultless t w line mask c block d rest f in
+        walks-where vs t line s knows scope m n mask parts.0 right.in_mask (statements block)
+        (λ i j. walks-block parts.1.place parts.1.room t (under t line mask) block parts.1.stands right.in_block (inside what.Masked line 1 i s) (knows-moved t s true line knows) (found-moved vs s true line scope) true
         (under_where line (mask_rank t mask) (inside what.Masked line 1 i s) refl) j) rest (elsewheres rest)
-        (λ i j. walks-elses parts.2.room t line (mask_rank t mask) rest parts.2.stands (none_after _ _ all) (inside what.Masked line 2 i s) (knows-moved t s true line knows) (found-moved vs s true line scope) refl j)
+        (λ i j. walks-elses parts.2.room t line (mask_rank t mask) rest parts.2.stands right.in_rest (inside what.Masked line 2 i s) (knows-moved t s true line knows) (found-moved vs s true line scope) refl j)
     walks-body k room t w line (Forall' is mask c block) h f s knows scope m in_ n =
-        let parts = forall-parts k room line is mask c block h in
-        let all = looked_into (is_masked w) line kind.Unsupported _ f in
-        let header = none_first _ _ all in
-        let none = none_masked w s m in_ (not_refused (is_masked w) line kind.Unsupported _ f) in
+        let parts = forall_parts k room line is mask c block h in
+        let right = forall_faultless t w line is mask c block f in
+        let none = none_masked w s m in_ right.unmasked in
         let f' = what.Forall (map (λ i. i.name) is) in
-        walks-forall vs t line s knows scope m n is mask parts.0 (none_first _ _ header) (forall_mask mask >> statements block)
+        walks-forall vs t line s knows scope m n is mask parts.0 right.in_triplets (forall_mask mask >> statements block)
         (λ i j found.
         let s' = inside f' line 1 i s in
-        let known = forall_known t s is line line i (none_first _ _ header) knows in
-        after vs true s' j (forall_mask mask) (statements block) (walks-test vs (inner t is) line s' known found true j mask parts.0.2 (none_after _ _ header))
-        (λ l. walks-block parts.1.place parts.1.room (inner t is) within.Forall block parts.1.stands (none_after _ _ all) s' known found true (record { around = refl; masked = none }) l))
+        let known = forall_known t s is line line i right.in_triplets knows in
+        after vs true s' j (forall_mask mask) (statements block) (walks-test vs (inner t is) line s' known found true j mask parts.0.2 right.in_mask)
+        (λ l. walks-block parts.1.place parts.1.room (inner t is) within.Forall block parts.1.stands right.in_block s' known found true (record { around = refl; masked = none }) l))
     walks-body k room t w line (Loop' x l u o c block) h f s knows scope m in_ n =
-        let parts = loop-parts k room line x l u o c block h in
-        let all = looked_into (is_masked w) line kind.Unsupported _ f in
-        let header = none_first _ _ all in
-        let upper = none_first _ _ header in
-        let lower = none_first _ _ upper in
-        let loop = none_after _ _ (none_first _ _ lower) in
-        walks-loop vs t line s knows scope w m n x l u o parts.0 parts.1 parts.2 loop (none_after _ _ lower) (none_after _ _ upper) (none_after _ _ header) (statements block)
-        (λ i j. walks-block parts.3.place parts.3.room (with_active t x) w block parts.3.stands (none_after _ _ all) (inside what.DoLoop line 1 i s)
-        (loop_known t (inside what.DoLoop line 1 i s) w line x loop (knows-moved t s s.masked line knows)) (found-moved vs s s.masked line scope) m (record { around = in_.around; masked = in_.masked }) j)
+        let parts = loop_parts k room line x l u o c block h in
+        let right = loop_faultless t w line x l u o c block f in
+        walks-loop vs t line s knows scope w m n x l u o parts.0 parts.1 parts.2 right.in_variable right.in_first right.in_last right.in_step (statements block)
+        (λ i j. walks-block parts.3.place parts.3.room (with_active t x) w block parts.3.stands right.in_block (inside what.DoLoop line 1 i s)
+        (loop_known t (inside what.DoLoop line 1 i s) w line x right.in_variable (knows-moved t s s.masked line knows)) (found-moved vs s s.masked line scope) m (record { around = in_.around; masked = in_.masked }) j)
     walks-body k room t w line (Allocate ps) h f s knows scope m in_ n =
-        walks-allocations vs t w line s knows scope m ps (allocated-parts k room line ps h) (none_after _ _ (looked_into (is_masked w) line kind.Unsupported _ f)) n
+        walks-allocations vs t w line s knows scope m ps (allocated_parts k room line ps h) (allocate_faultless t w line ps f) n
     walks-body k room t w line (Deallocate xs) h f s knows scope m in_ n = walks-deallocations vs t w line s knows scope m xs n
     walks-body k room t w line (Read es) h f s knows scope m in_ n =
-        walks-readings vs t w line s knows scope m es (read-parts k room line es h) (none_after _ _ (looked_into (is_masked w) line kind.Unsupported _ f)) n
+        walks-readings vs t w line s knows scope m es (read_parts k room line es h) (read_faultless t w line es f) n
     walks-body k room t w line (Shared' c block) h f s knows scope m in_ n =
-        let parts = shared-parts k room line c block h in
+        let parts = shared_parts k room line c block h in
         walks-shared vs t line s knows scope m n (statements block)
-        (λ i j. walks-block parts.place parts.room t within.Shared block parts.stands (allowed (is_outside w) line kind.Unsupported _ f) (inside what.Workshare line 0 i s) (knows-moved t s s.masked line knows) (found-moved vs s s.masked line scope) m
+        (λ i j. walks-block parts.place parts.room t within.Shared block parts.stands (shared_faultless t w line c block f) (inside what.Workshare line 0 i s) (knows-moved t s s.masked line knows) (found-moved vs s s.masked line scope) m
         (shared_within w s (inside what.Workshare line 0 i s) m in_ (right_outside w line _ f) refl) j)
     walks-body k room t w line Unsupported h f s knows scope m in_ n = no-statement vs m s n
     walks-body k room t w line TooDeep' h f s knows scope m in_ n = no-statement vs m s n
@@ -119,17 +113,17 @@ module _ (vs : List Value) where
     walks-elses : {j : Count} (room : ℕ) (t : List Row) (line : ℕ) (first : Option ℕ) (es : Elses j) → AreElses room es → elses_faults t line first es ≡ [] → (s : Scope) → Knows t s → ScopeIsFound vs s → s.masked ≡ true → (n : ℕ) → Statement vs true s n (elsewheres es)
     walks-elses room t line first end_elses h f s knows scope is n = no-statement vs true s n
     walks-elses room t line first (more_elses (Else' own (Some mask) c block) rest) h f s knows scope is n =
-        let here = none_first _ _ f in
+        let right = else_faultless t own line first (Some mask) c block rest f in
         after vs true s n (elsewhere own (Some mask) (statements block)) (elsewheres rest)
-        (walks-elsewhere vs t own s knows scope n first (Some mask) h.0 (none_first _ _ here) (statements block)
-        (λ q i j. walks-block in_where room t (else_control t own line first (Some mask)) block h.1 (none_after _ _ here) (moved s.masked own s) (knows-moved t s s.masked own knows) (found-moved vs s s.masked own scope) true
-        (else_within t own line first (Some mask) (moved s.masked own s) is) j)) (λ i. walks-elses room t line first rest h.2 (none_after _ _ f) s knows scope is i)
+        (walks-elsewhere vs t own s knows scope n first (Some mask) h.0 right.in_header (statements block)
+        (λ q i j. walks-block in_where room t (else_control t own line first (Some mask)) block h.1 right.in_block (moved s.masked own s) (knows-moved t s s.masked own knows) (found-moved vs s s.masked own scope) true
+        (else_within t own line first (Some mask) (moved s.masked own s) is) j)) (λ i. walks-elses room t line first rest h.2 right.in_rest s knows scope is i)
     walks-elses room t line first (more_elses (Else' own None c block) rest) h f s knows scope is n =
-        let here = none_first _ _ f in
+        let right = else_faultless t own line first None c block rest f in
         after vs true s n (elsewhere own None (statements block)) (elsewheres rest)
         (walks-elsewhere vs t own s knows scope n first None tt refl (statements block)
-        (λ q i j. walks-block in_where room t (else_control t own line first None) block h.0 here (moved s.masked own s) (knows-moved t s s.masked own knows) (found-moved vs s s.masked own scope) true
-        (else_within t own line first None (moved s.masked own s) is) j)) (λ i. walks-elses 0 t line first rest (no-else rest h.1) (none_after _ _ f) s knows scope is i)
+        (λ q i j. walks-block in_where room t (else_control t own line first None) block h.0 right.in_block (moved s.masked own s) (knows-moved t s s.masked own knows) (found-moved vs s s.masked own scope) true
+        (else_within t own line first None (moved s.masked own s) is) j)) (λ i. walks-elses 0 t line first rest (no_else rest h.1) right.in_rest s knows scope is i)
 
   -- the statements of a source
   abbrev pub IsOuter : Stmt → Type 0

@@ -4,10 +4,9 @@ use Rattle.ws_tree.specs.declared.expr.Expr.{Expr}
 use Rattle.ws_tree.specs.Grammatical.{IsExpr}
 use Rattle.ws_types.specs.declared.types.Row.{Row}
 use Rattle.ws_types.specs.declared.types.Typed.{Typed}
-use Rattle.ws_types.specs.Operations.{same_truth, is_other_type, is_above, scalar_faults}
+use Rattle.ws_types.specs.Operations.{scalar_faults}
 use Rattle.ws_types.specs.Expressions.{faults}
-use Rattle.hlfir_ops.specs.declared.kinds.Elem.{Elem}
-use Rattle.hlfir_ops.specs.declared.kinds.Elem.TheVariants.{I32, I1}
+use Rattle.hlfir_ops.specs.declared.kinds.Elem.TheVariants.{I32}
 use Rattle.hlfir_ops.specs.declared.kinds.ValueKind.{ValueKind}
 use Rattle.hlfir_ops.specs.declared.kinds.ValueKind.TheVariants.{Scalar, Place, Declared, Allocatable, Section, Array}
 use Rattle.hlfir_ops.specs.RulesValues.{Value, elem_of, rank_of, is_place, is_scalar, same_elem}
@@ -20,7 +19,7 @@ use Rattle.kind_laws.specs.Found.{ScopeIsFound}
 use Rattle.kind_laws.specs.Laws.{HasType}
 use Rattle.kind_laws.proofs.TypedExpressions.{types_are_known}
 use Rattle.kind_laws.proofs.ExpressionsMade.{kinds_are_types}
-use Rattle.kind_laws.proofs.NoFaults.{not_false, none_first, none_after, not_broken}
+use Rattle.kind_laws.proofs.TypesTold.{scalar_says, same_elem-same}
 use Rattle.yield_laws.proofs.Usable.{IsUsable, IsValue, is_solid}
 use Rattle.yield_laws.proofs.Walking.{Walks}
 use Rattle.yield_laws.proofs.Values.{walks-expression}
@@ -39,37 +38,21 @@ module _ (vs : List Value) (t : List Row) (inside : Bool) (line : ℕ) (s : Scop
 
 -- ---- scalars
 
-no_rank : (n : ℕ) → nat_lt 0 n ≡ true → n ≡ 0 → ⊥
-no_rank n h g = let same : nat_lt 0 n ≡ false = grind (arith, g) in true≢false (sym h ∙ same)
+some_rank : (n : ℕ) → nat_lt 0 n ≡ true → n ≡ 0 → ⊥
+some_rank n h g = let same : nat_lt 0 n ≡ false = grind (arith, g) in true≢false (sym h ∙ same)
 
 pub scalar-kind : (k : ValueKind) → is_solid k ≡ true → rank_of k ≡ 0 → is_place (Some k) ≡ false → k ≡ Scalar (elem_of k)
 scalar-kind (Scalar e) h r p = refl
 scalar-kind (Place e) h r p = absurd (true≢false p)
-scalar-kind (Declared e shape) h r p = absurd (no_rank shape.rank h r)
-scalar-kind (Allocatable e rank) h r p = absurd (no_rank rank h r)
-scalar-kind (Section e rank) h r p = absurd (no_rank rank h r)
-scalar-kind (Array e rank) h r p = absurd (no_rank rank h r)
-
-pub same-elem : (e : Elem) → same_elem e e ≡ true
-same-elem I32 = refl
-same-elem I1 = refl
+scalar-kind (Declared e shape) h r p = absurd (some_rank shape.rank h r)
+scalar-kind (Allocatable e rank) h r p = absurd (some_rank rank h r)
+scalar-kind (Section e rank) h r p = absurd (some_rank rank h r)
+scalar-kind (Array e rank) h r p = absurd (some_rank rank h r)
 
 pub scalar-of : (ty : Typed) (truth : Bool) (k : ValueKind) → HasType ty k → is_solid k ≡ true → ty.truth ≡ truth → ty.rank ≡ 0 → is_scalar (elem truth) (Some k) ≡ true
 scalar-of ty truth k h solid is none =
-    ap (λ q. is_scalar (elem truth) (Some q)) (scalar-kind k solid (h.rank ∙ none) h.value) ∙ (ap (same_elem (elem truth)) (h.elem ∙ ap elem is) ∙ same-elem (elem truth))
-
-other_type : (b c : Bool) → same_truth b c ≡ true → c ≡ b
-other_type true c h = h
-other_type false true h = absurd (true≢false (sym h))
-other_type false false h = refl
-
-pub truth-is : (truth : Bool) (ty : Typed) → is_other_type truth (Some ty) ≡ false → ty.truth ≡ truth
-truth-is truth ty h = other_type truth ty.truth (not_false _ h)
-
-pub rank-none : (ty : Typed) → is_above 0 (Some ty) ≡ false → ty.rank ≡ 0
-rank-none ty h = grind (arith, h)
+    ap (λ q. is_scalar (elem truth) (Some q)) (scalar-kind k solid (h.rank ∙ none) h.value) ∙ (ap (same_elem (elem truth)) (h.elem ∙ ap elem is) ∙ same_elem-same (elem truth))
 
 -- an INTEGER of rank 0
 pub integer-scalar : (line : ℕ) (ty : Typed) (k : ValueKind) → HasType ty k → is_solid k ≡ true → scalar_faults line (Some ty) ≡ [] → is_scalar I32 (Some k) ≡ true
-unfolding scalar_faults
-integer-scalar line ty k h solid f = scalar-of ty false k h solid (truth-is false ty (not_broken _ _ _ (none_first _ _ f))) (rank-none ty (not_broken _ _ _ (none_after _ _ f)))
+integer-scalar line ty k h solid f = let is = scalar_says line ty f in scalar-of ty false k h solid is.0 is.1

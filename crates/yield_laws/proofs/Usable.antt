@@ -3,6 +3,7 @@ use Rattle.std.proofs.Common.{◌≡◌, refl, sym, ap, ◌∙◌, ℕ, Bool, tr
 use Rattle.std.specs.List.{list_all}
 use Rattle.std.proofs.lemmas.List.Elements.{All-nil, All-head, All-tail}
 use Rattle.std.proofs.lemmas.List.Folds.{list_all-append}
+use Rattle.std.proofs.lemmas.Bool.{and_from}
 use Rattle.hlfir_ops.specs.declared.kinds.ValueKind.{ValueKind}
 use Rattle.hlfir_ops.specs.declared.kinds.ValueKind.TheVariants.{Scalar, Place, Declared, Allocatable, Section, Array}
 use Rattle.hlfir_ops.specs.declared.what.What.{What}
@@ -19,7 +20,7 @@ use Rattle.hlfir_ops.specs.Rules.{yields_of, sides_of, realloc_of}
 use Rattle.lower_assign.specs.declared.operand.Operand.{Operand}
 use Rattle.lower_assign.specs.Operations.{values_of}
 use Rattle.kind_laws.specs.Found.{Holds, Found}
-use Rattle.yield_laws.proofs.Right.{both, IsRight, AreRight, op-right}
+use Rattle.yield_laws.proofs.Right.{IsRight, AreRight, op-right}
 use Rattle.kind_laws.proofs.Finding.{own_value}
 
 -- ---- kinds: an array has a rank above 0
@@ -45,14 +46,11 @@ IsReached vs v = is_allocatable_declare (value_at vs v) ≡ false
 pub usable-reached : {vs : List Value} {x : Operand} → IsUsable vs x → IsReached vs x.value
 usable-reached h = ap is_allocatable_declare h.found.found ∙ h.found.reached
 
-pub none-allocatable : (vs : List Value) → no_allocatable vs [] ≡ true
-none-allocatable vs = refl
-
 pub more-reached : (vs : List Value) (v : ValueId) (os : List ValueId) → IsReached vs v → no_allocatable vs os ≡ true → no_allocatable vs (v ∷ os) ≡ true
-more-reached vs v os h g = both _ _ (ap not h) g
+more-reached vs v os h g = and_from _ _ (ap not h) g
 
 pub reached-append : (vs : List Value) (xs ys : List ValueId) → no_allocatable vs xs ≡ true → no_allocatable vs ys ≡ true → no_allocatable vs (xs ++ ys) ≡ true
-reached-append vs xs ys h g = list_all-append (λ v. not (is_allocatable_declare (value_at vs v))) xs ys ∙ both _ _ h g
+reached-append vs xs ys h g = list_all-append (λ v. not (is_allocatable_declare (value_at vs v))) xs ys ∙ and_from _ _ h g
 
 pub all-reached : (vs : List Value) (xs : List Operand) → All (IsUsable vs) xs → no_allocatable vs (values_of xs) ≡ true
 all-reached vs [] h = refl

@@ -1,6 +1,5 @@
 -- Walks through lowerings: each op passes, and what is made passes, where the values of the module hold those of the ops.
-use Rattle.std.proofs.Common.{◌≡◌, refl, ℕ, ◌+◌, Bool, true, false, ◌||◌, List, [], All, Some, None, if◌then◌else◌}
-use Rattle.std.specs.Prelude.{⊤}
+use Rattle.std.proofs.Common.{◌≡◌, refl, ℕ, ◌+◌, Bool, true, false, ◌||◌, List, [], All, Some, if◌then◌else◌}
 use Rattle.std.proofs.lemmas.List.Elements.{All-nil, All-cons, All-append}
 use Rattle.hlfir_ops.specs.declared.kinds.ValueKind.{ValueKind}
 use Rattle.hlfir_ops.specs.declared.what.What.{What}
@@ -12,7 +11,7 @@ use Rattle.hlfir_ops.specs.RulesValues.{Value}
 use Rattle.hlfir_ops.specs.RulesRegions.{is_value_op}
 use Rattle.hlfir_ops.specs.RulesStatements.{may_take_allocatable, no_allocatable}
 use Rattle.lower_assign.specs.Scopes.{Scope}
-use Rattle.lower_assign.specs.Lowerings.{Lowering, done, ◌>>=◌, scoped, giving, acting}
+use Rattle.lower_assign.specs.Lowerings.{Lowering, done, ◌>>=◌, scoped, giving}
 use Rattle.kind_laws.specs.Found.{Holds}
 use Rattle.kind_laws.proofs.Finding.{holds_first, holds_after}
 use Rattle.yield_laws.proofs.Usable.{IsUsable, IsValue, is_solid, is_plain, value-op, given-usable}
@@ -39,16 +38,9 @@ module _ (vs : List Value) (R : Op → Type 0) (s : Scope) (n : ℕ) where
   unfolding scoped
   walks-scoped f Q h = h
 
-  pub walks-weaker : {A : Type 0} (p : Lowering A) (P Q : A → Type 0) → ((x : A) → P x → Q x) → Walks vs R s n p P → Walks vs R s n p Q
-  walks-weaker p P Q f g h = ((g h).0, f (p s n).made (g h).1)
-
   pub walks-giving : (w : What) (operands : List ValueId) (kind : ValueKind) → is_value_op w ≡ true → is_solid kind ≡ true → R (op_of w s.line operands (Some kind) []) → Walks vs R s n (giving w operands kind) (IsUsable vs)
   unfolding giving
   walks-giving w operands kind g solid r h = (All-cons R (op_of w s.line operands (Some kind) []) [] r (All-nil R), given-usable vs n w s.line operands kind [] [] g solid h)
-
-  pub walks-acting : (w : What) (operands : List ValueId) → R (op_of w s.line operands None []) → Walks vs R s n (acting w operands) (λ x. ⊤)
-  unfolding acting
-  walks-acting w operands r h = (All-cons R (op_of w s.line operands None []) [] r (All-nil R), tt)
 
 -- an op that gives a value
 pub walks-value : (vs : List Value) (s : Scope) (n : ℕ) (w : What) (operands : List ValueId) (kind : ValueKind) → is_value_op w ≡ true → is_plain w ≡ true → is_solid kind ≡ true → (may_take_allocatable w || no_allocatable vs operands) ≡ true →

@@ -2,6 +2,7 @@
 use Rattle.std.proofs.Common.{◌≡◌, refl, ap, ◌∙◌, ℕ, ◌==◌, Bool, true, false, not, List, [], ◌∷◌, ◌++◌, length, All, Some, None}
 use Rattle.std.specs.List.{list_all}
 use Rattle.std.proofs.lemmas.List.Elements.{All-head, All-tail, All-weaker, All-push}
+use Rattle.std.proofs.lemmas.Bool.{and_from}
 use Rattle.hlfir_ops.specs.declared.kinds.Elem.TheVariants.{I1}
 use Rattle.hlfir_ops.specs.declared.what.What.TheVariants as what
 use Rattle.hlfir_ops.specs.declared.op.ValueId.{ValueId}
@@ -15,9 +16,9 @@ use Rattle.lower_assign.specs.Scopes.{Scope}
 use Rattle.lower_assign.specs.Lowerings.{Lowering, ◌>>=◌, acting}
 use Rattle.lower_assign.specs.Statements.{yielded, all_yielded}
 use Rattle.kind_laws.specs.Found.{Holds, Found}
-use Rattle.yield_laws.proofs.Right.{both, IsRight, AreRight}
+use Rattle.yield_laws.proofs.Right.{IsRight, AreRight}
 use Rattle.kind_laws.proofs.Finding.{holds_first}
-use Rattle.yield_laws.proofs.Ends.{parts-yield, yields-push}
+use Rattle.kind_laws.proofs.Ends.{parts-yield, yields-push}
 use Rattle.yield_laws.proofs.Usable.{IsUsable, IsValue, plain-right, usable-reached, more-reached}
 use Rattle.yield_laws.proofs.Walking.{Walks}
 use Rattle.yield_laws.proofs.Elements.{kind-found}
@@ -30,7 +31,7 @@ pub record IsYielding (vs : List Value) (ops : List Op) (os : List ValueId) : Ty
 
 all_values : (vs : List Value) (ops : List Op) → All (IsValue vs) ops → list_all gives_value ops ≡ true
 all_values vs [] h = refl
-all_values vs (op ∷ ops) h = both _ _ (All-head (IsValue vs) op ops h).0 (all_values vs ops (All-tail (IsValue vs) op ops h))
+all_values vs (op ∷ ops) h = and_from _ _ (All-head (IsValue vs) op ops h).0 (all_values vs ops (All-tail (IsValue vs) op ops h))
 
 module _ (vs : List Value) (s : Scope) (n : ℕ) where
   ended : (ops : List Op) (os : List ValueId) → All (IsValue vs) ops → IsYielding vs (ops ++ op_of what.Yield s.line os None [] ∷ []) os
@@ -71,13 +72,13 @@ module _ {vs : List Value} {ops : List Op} where
   first-kind y f = ap (first_kind vs) y.parts ∙ kind-found f
 
   pub one-of : {v : ValueId} → IsYielding vs ops (v ∷ []) → yields_one ops ≡ true
-  one-of y = both _ _ y.yields (ap (λ os. length os == 1) y.parts)
+  one-of y = and_from _ _ y.yields (ap (λ os. length os == 1) y.parts)
 
   pub value-yielded : {x : Operand} → IsYielding vs ops (x.value ∷ []) → Found vs x → is_place (Some x.kind) ≡ false → yields_value vs ops ≡ true
-  value-yielded y f h = both _ _ (one-of y) (ap (λ k. not (is_place k)) (first-kind y f) ∙ ap not h)
+  value-yielded y f h = and_from _ _ (one-of y) (ap (λ k. not (is_place k)) (first-kind y f) ∙ ap not h)
 
   pub truth-yielded : {x : Operand} → IsYielding vs ops (x.value ∷ []) → Found vs x → is_scalar I1 (Some x.kind) ≡ true → yields_truth vs ops ≡ true
-  truth-yielded y f h = both _ _ (one-of y) (ap (is_scalar I1) (first-kind y f) ∙ h)
+  truth-yielded y f h = and_from _ _ (one-of y) (ap (is_scalar I1) (first-kind y f) ∙ h)
 
   pub yielded-reached : {os : List ValueId} → IsYielding vs ops os → no_allocatable vs os ≡ true → no_allocatable vs (parts ops) ≡ true
   yielded-reached y h = ap (no_allocatable vs) y.parts ∙ h
@@ -86,4 +87,4 @@ module _ {vs : List Value} {ops : List Op} where
   usable-yielded {x} y u = yielded-reached y (more-reached vs x.value [] (usable-reached u) refl)
 
   pub integers-yielded : {os : List ValueId} → IsYielding vs ops os → list_all (is_integer vs) os ≡ true → yields_integers vs ops ≡ true
-  integers-yielded y h = both _ _ y.yields (ap (list_all (is_integer vs)) y.parts ∙ h)
+  integers-yielded y h = and_from _ _ y.yields (ap (list_all (is_integer vs)) y.parts ∙ h)

@@ -1,10 +1,11 @@
--- What the grammar says of the parts of a construct.
-use Rattle.std.proofs.Common.{ℕ, zero, suc, List, All, Option}
+-- What the grammar says of the parts of statements.
+use Rattle.std.proofs.Common.{ℕ, zero, suc, List, All, Option, Some, None}
 use mathlib.Core.Former.{Count}
 use Rattle.ws_tree.specs.declared.expr.Expr.{Expr}
 use Rattle.ws_tree.specs.declared.stmt.Index.{Index}
 use Rattle.ws_tree.specs.declared.stmt.Part.{Part}
 use Rattle.ws_tree.specs.declared.stmt.Body.TheVariants.{Assign, Masked', Forall', Loop', Allocate, Read, Shared'}
+use Rattle.ws_tree.specs.declared.stmt.Else.{Else'}
 use Rattle.ws_tree.specs.Trees.{Stmts, end_stmts, more_stmts, Elses, end_elses, more_elses}
 use Rattle.ws_tree.specs.Grammatical as grammar
 use Rattle.ws_tree.specs.Grammatical.{IsSide, IsDesignator, IsOptional, IsPart, IsHeader, IsOneAssignment, HasNoElse, IsBody, AreStmts, AreElses}
@@ -32,6 +33,10 @@ no_else (more_elses e es) h = absurd h
 pub record ElsesStandIn {m : Count} (rest : Elses m) : Type 0 where
   pub room : ℕ
   pub stands : AreElses room rest
+
+pub else_parts : {m : Count} (room line : ℕ) (mask : Option Expr) (c : _) (block : _) (rest : Elses m) → AreElses room (more_elses (Else' line mask c block) rest) → IsOptional mask × AreStmts in_where room block × ElsesStandIn rest
+else_parts room line None c block rest h = (tt, h.0, record { room = 0; stands = no_else rest h.1 })
+else_parts room line (Some e) c block rest h = (h.0, h.1, record { room = room; stands = h.2 })
 
 pub where_parts : (k : grammar.Within) (room line : ℕ) (mask : Expr) (c : _) (block : _) (d : _) (rest : _) → IsBody k room line (Masked' mask c block d rest) → IsSide mask × StandsIn block × ElsesStandIn rest
 where_parts k zero line mask c block d rest h = (h.0, alone line block h.1, record { room = 0; stands = no_else rest h.2 })

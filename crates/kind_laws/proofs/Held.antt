@@ -1,16 +1,21 @@
 -- Which values of a whole module the parts of a lowering give.
-use Rattle.std.proofs.Common.{◌≡◌, ℕ, ◌+◌, List, [], Some, None}
+use Rattle.std.proofs.Common.{◌≡◌, refl, sym, ℕ, ◌+◌, List, [], Some, None, append-nil}
 use Rattle.std.specs.Prelude.{⊤}
 use Rattle.hlfir_ops.specs.declared.kinds.ValueKind.{ValueKind}
 use Rattle.hlfir_ops.specs.declared.what.What.{What}
 use Rattle.hlfir_ops.specs.declared.op.ValueId.{ValueId}
+use Rattle.hlfir_ops.specs.declared.op.Op.{Op}
 use Rattle.hlfir_ops.specs.Numbers.{own_numbers, numbers_of}
-use Rattle.hlfir_ops.specs.RulesValues.{Value, source_of, value_at}
+use Rattle.hlfir_ops.specs.RulesValues.{Value, source_of, value_at, values_of}
+use Rattle.lower_assign.specs.Scopes.{Scope}
+use Rattle.lower_assign.specs.Lowerings.{Lowering, ◌>>=◌, giving, statement_of}
 use Rattle.kind_laws.specs.Found.{Holds, RegionsHeld}
 use Rattle.kind_laws.proofs.Finding.{holds_first, holds_after, own_value}
 use Rattle.kind_laws.proofs.ScopesFound.{regions_are_held}
-use Rattle.lower_assign.specs.Scopes.{Scope}
-use Rattle.lower_assign.specs.Lowerings.{Lowering, ◌>>=◌, giving, statement_of}
+
+-- the values of a list are all values of a module that consists of it
+pub held-whole : (ops : List Op) → Holds (values_of ops) 0 ops
+held-whole ops = record { before = []; after = []; whole = sym (append-nil (values_of ops)); count = refl }
 
 module _ (vs : List Value) where
   module _ {A B : Type 0} (p : Lowering A) (q : A → Lowering B) (s : Scope) (n : ℕ) where
