@@ -20,7 +20,7 @@ use Rattle.hlfir_meaning.specs.Statements.{target_extents, read_into}
 use Rattle.value_laws.specs.Standing.{AreIn}
 use Rattle.value_laws.proofs.Names.{whole_operands}
 use Rattle.world_laws.specs.Yields.{TargetStands}
-use Rattle.run_laws.proofs.Wholes.{whole-targets, whole-array}
+use Rattle.where_laws.proofs.Wholes.{whole-targets, whole-array}
 
 -- ---- the shape of a term that is one array operand, or none
 

@@ -14,7 +14,6 @@ pub mod Regions
 pub mod Leaving
 pub mod Allocating
 pub mod Deallocating
-pub mod Wholes
 pub mod Filling
 pub mod Reading
 pub mod Simple
