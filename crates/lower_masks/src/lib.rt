@@ -4,5 +4,5 @@
 mod laws;
 mod lowering;
 
-pub use laws::every_module_keeps_the_rules;
+pub use laws::{every_module_keeps_the_rules, every_module_means_its_source};
 pub use lowering::lower;

@@ -1,5 +1,7 @@
 //! Parts of a source, lowered by themselves at the place of a builder.
 
+ghost use Rattle.std.specs.Prelude.{◌≡◌, [], IfOk};
+
 use crate::front::accepted;
 use hlfir_ops::{Builder, Elem, ValueKind, What};
 use hlfir_text::print;
@@ -54,13 +56,10 @@ fn source(alloc: Global) -> Result<Checked, Fail> {
     }
 }
 
-#[test]
-fn a_value_a_left_side_and_a_statement(rt: HostRuntime) -> Result<(), Fail> {
-    let alloc = rt.alloc();
-    let source = source(alloc)?;
-    let Some(statement) = source.tree().body.as_slice().first() else {
-        return Err(Fail::from("no statement"));
-    };
+/// A builder that has begun with the declares of the source.
+fn begun(alloc: Global) -> Result<Builder, Fail>
+    ensures { IfOk result (λ build. build.around ≡ []) }
+{
     let mut build = Builder::new(alloc, Name::from_str(alloc, "main")?);
     give(
         alloc,
@@ -79,10 +78,31 @@ fn a_value_a_left_side_and_a_statement(rt: HostRuntime) -> Result<(), Fail> {
         Items::new(alloc),
         ValueKind::Place(Elem::I32),
     )?;
-    if let Body::Assign { left, right } = &statement.body {
-        assert_eq!(rt; lower_value(alloc, &mut build, &source, right)?.number, 4);
-        assert_eq!(rt; lower_left(alloc, &mut build, &source, left)?.number, 6);
+    Ok(build)
+}
+
+/// The numbers of both sides of an assignment, the right side first.
+fn sides(alloc: Global, build: &mut Builder, source: &Checked, body: &Body) -> Result<Vec<u32>, Fail>
+    ensures { IfOk result (λ numbers. build.new.around ≡ build.old.around) }
+{
+    let mut numbers = Vec::new(alloc);
+    if let Body::Assign { left, right } = body {
+        numbers.push(lower_value(alloc, build, source, right)?.number)?;
+        numbers.push(lower_left(alloc, build, source, left)?.number)?;
     }
+    Ok(numbers)
+}
+
+#[test]
+fn a_value_a_left_side_and_a_statement(rt: HostRuntime) -> Result<(), Fail> {
+    let alloc = rt.alloc();
+    let source = source(alloc)?;
+    let Some(statement) = source.tree().body.as_slice().first() else {
+        return Err(Fail::from("no statement"));
+    };
+    let mut build = begun(alloc)?;
+    let numbers = sides(alloc, &mut build, &source, &statement.body)?;
+    assert_eq!(rt; numbers.as_slice(), [4, 6].as_slice());
     lower_plain(alloc, &mut build, &source, statement)?;
     let text = print(alloc, &build.finish())?;
     assert_eq!(rt; text.as_slice(), PARTS);

@@ -1,0 +1,9 @@
+pub mod Agreeing
+pub mod Bounds
+pub mod Values
+pub mod ListVectors
+pub mod Lists
+pub mod Sides
+pub mod Lefts
+pub mod LeftSides
+pub mod Means
