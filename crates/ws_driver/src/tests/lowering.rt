@@ -82,7 +82,12 @@ fn begun(alloc: Global) -> Result<Builder, Fail>
 }
 
 /// The numbers of both sides of an assignment, the right side first.
-fn sides(alloc: Global, build: &mut Builder, source: &Checked, body: &Body) -> Result<Vec<u32>, Fail>
+fn sides(
+    alloc: Global,
+    build: &mut Builder,
+    source: &Checked,
+    body: &Body,
+) -> Result<Vec<u32>, Fail>
     ensures { IfOk result (λ numbers. build.new.around ≡ build.old.around) }
 {
     let mut numbers = Vec::new(alloc);
