@@ -3,18 +3,17 @@
 ghost use Rattle.std.specs.Prelude.{◌≡◌, [], IfOk};
 ghost use Rattle.std.specs.List.Sorted.{IsNonDecreasing};
 ghost use Rattle.hlfir_ops.specs.Rules.{keeps_forms, keeps_statements};
-ghost use Rattle.hlfir_verify.specs.Arounds.{around_seen};
+ghost use Rattle.rule_limits.specs.Arounds.{around_seen};
 ghost use Rattle.hlfir_verify.specs.Looks.{facts_seen};
 ghost use Rattle.hlfir_verify.specs.Verdicts as verdicts;
 
-use crate::around::Around;
 use crate::defined::{are_defined, is_used_once};
 use crate::ending::Rule;
-use crate::limits::limits_fit;
 use crate::lists::{declares_fit, lists_fit};
 use crate::look::Look;
 use crate::masks::{forall_fits, where_fits};
 use hlfir_ops::Op;
+use rule_limits::{Around, limits_fit};
 use rule_tests::{operands_fit, realloc_fits, result_fits, sides_fit, yields_fit};
 use std::alloc::AllocError;
 

@@ -5,14 +5,13 @@ ghost use Rattle.hlfir_ops.specs.Rules.{facts_of, KeepsRules};
 ghost use Rattle.hlfir_verify.specs.Looks.{facts_seen};
 ghost use Rattle.hlfir_verify.specs.Walks.{Ends};
 
-use crate::around::OUTERMOST;
 use crate::ending::VerifyEnd;
 use crate::going::Walk;
 use crate::keeping::Verified;
 use crate::look::Look;
-use crate::order::ops_in_order;
 use crate::walk::walk_ops;
 use hlfir_ops::Module;
+use rule_limits::{OUTERMOST, ops_in_order};
 use rule_tests::{uses_of, values_of};
 use std::alloc::{AllocError, Global};
 

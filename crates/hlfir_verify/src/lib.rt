@@ -2,7 +2,6 @@
 //! first.
 #![tactic(auto)]
 
-mod around;
 mod broken;
 mod check;
 mod defined;
@@ -10,13 +9,10 @@ mod ending;
 mod going;
 mod keeping;
 mod laws;
-mod limits;
 mod lists;
 mod look;
 mod masks;
-mod order;
 mod statements;
-mod tally;
 #[cfg(test)]
 mod tests;
 mod walk;

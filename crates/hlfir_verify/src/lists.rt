@@ -7,10 +7,9 @@ ghost use Rattle.hlfir_ops.specs.RulesStatements as statements;
 ghost use Rattle.hlfir_ops.specs.Rules as rules;
 ghost use Rattle.rule_tests.specs.Seen.{seen};
 
-use crate::statements::{
-    all_declare, all_in_program, all_in_workshare, declares, stands_in_program,
-};
+use crate::statements::{all_declare, all_in_program, all_in_workshare, stands_in_program};
 use hlfir_ops::{Op, Region, ValueId, What};
+use rule_limits::declares;
 use rule_tests::{Value, is_allocatable_declare, ops_in, parts, value_at};
 use ws_base::Name;
 

@@ -8,9 +8,9 @@ ghost use Rattle.hlfir_ops.specs.Rules as rules;
 ghost use Rattle.rule_tests.specs.Seen.{seen};
 ghost use Rattle.rule_tests.specs.Orders.{ops_of};
 
-use crate::order::{ops_in_order, ops_inside};
 use crate::statements::{all_in_where, are_elsewheres, is_forall_body, works_on_scalars};
 use hlfir_ops::{Op, Region, ValueId, ValueKind, What};
+use rule_limits::{ops_in_order, ops_inside};
 use rule_tests::{
     Value, first_kind, have_rank, is_designate, is_mask, ops_in, parts_in, rank_of, value_at,
 };

@@ -5,16 +5,8 @@ ghost use Rattle.std.specs.List.{list_all};
 ghost use Rattle.hlfir_ops.specs.RulesStatements as statements;
 
 use hlfir_ops::{Op, What};
+use rule_limits::declares;
 use rule_tests::is_section;
-
-fn is_declare(what: &What) -> bool
-    ensures { result ≡ statements.is_declare what.now }
-{
-    match what {
-        What::Declare(_) => true,
-        _ => false,
-    }
-}
 
 fn is_assign(what: &What) -> bool
     ensures { result ≡ statements.is_assign what.now }
@@ -76,12 +68,6 @@ fn is_statement(what: &What) -> bool
         | What::Read { .. } => true,
         _ => false,
     }
-}
-
-pub fn declares(op: &Op) -> bool
-    ensures { result ≡ statements.declares op.now }
-{
-    is_declare(&op.what)
 }
 
 pub fn all_declare(ops: &[Op]) -> bool

@@ -5,16 +5,16 @@ ghost use Rattle.hlfir_ops.specs.declared.op.Op.{out-Op};
 ghost use Rattle.hlfir_ops.specs.declared.op.Region.{out-Region};
 ghost use Rattle.hlfir_ops.specs.Numbers.{names_in, own_numbers, numbers_of, numbers_in};
 ghost use Rattle.hlfir_ops.specs.RulesPlaces as places;
-ghost use Rattle.hlfir_verify.specs.Arounds.{around_seen};
+ghost use Rattle.rule_limits.specs.Arounds.{around_seen};
 ghost use Rattle.hlfir_verify.specs.Looks.{facts_seen};
 ghost use Rattle.hlfir_verify.specs.Verdicts.{judged, verdict, verdicts, Tells};
 
-use crate::around::{Around, around_in};
 use crate::broken::least_broken;
 use crate::ending::VerifyEnd;
 use crate::going::{Walk, define_names, define_own, go_past, leave};
 use crate::look::Look;
 use hlfir_ops::{Op, Region, What};
+use rule_limits::{Around, around_in};
 use rule_tests::names_at;
 
 /// Judges an op, whose place is that of the walk, and goes past it.

@@ -7,7 +7,7 @@ ghost use Rattle.rule_tests.specs.Orders.{ops_of};
 use hlfir_ops::{Op, Region};
 use std::alloc::{AllocError, Global};
 
-#[tactic(auto, using(hlfir_verify::proofs::Orders::push_rules))]
+#[tactic(auto, using(rule_limits::proofs::Orders::push_rules))]
 fn add_op<'a>(order: &mut Vec<&'a Op>, op: &'a Op) -> Result<(), AllocError>
     ensures { OnOk result (ops_of order.new.items ≡ ops_of order.old.items ++ op.now ∷ []) }
 {

@@ -4,7 +4,7 @@ use Rattle.hlfir_ops.specs.declared.op.Region.{out-Region}
 use Rattle.hlfir_ops.specs.Numbers.{own_numbers, op_numbers}
 use Rattle.hlfir_ops.specs.RulesPlaces.{op_sites, sites_in, from_number, own_defined}
 use Rattle.hlfir_verify.specs.declared.ending.VerifyEnd.{VerifyEnd}
-use Rattle.hlfir_verify.specs.Arounds.{around_seen}
+use Rattle.rule_limits.specs.Arounds.{around_seen}
 use Rattle.hlfir_verify.specs.Looks.{facts_seen}
 use Rattle.hlfir_verify.specs.Verdicts.{judged, verdicts}
 use Rattle.hlfir_verify.proofs.Rising.{kept_more}

@@ -1,7 +1,7 @@
 use Rattle.std.proofs.Common.{◌≡◌, ◌+◌, [], length, take, drop}
 use Rattle.hlfir_ops.specs.Numbers.{numbers_of, numbers_in}
 use Rattle.hlfir_ops.specs.RulesPlaces.{sites_of, sites_in}
-use Rattle.hlfir_verify.specs.Arounds.{around_seen}
+use Rattle.rule_limits.specs.Arounds.{around_seen}
 use Rattle.hlfir_verify.specs.Looks.{facts_seen}
 use Rattle.hlfir_verify.specs.Verdicts.{judged, verdicts}
 use Rattle.hlfir_verify.proofs.walk.+walking.Given as goal

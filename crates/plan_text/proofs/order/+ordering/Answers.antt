@@ -1,5 +1,5 @@
 use Rattle.std.proofs.Common.{◌∙◌}
-use Rattle.hlfir_verify.proofs.Orders.{next_op}
+use Rattle.rule_limits.proofs.Orders.{next_op}
 use Rattle.plan_text.proofs.order.+ordering.Goals as goal
 
 pub add_ops-each-preserved : goal.add_ops-each-preserved

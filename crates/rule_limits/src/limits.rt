@@ -3,13 +3,13 @@
 ghost use Rattle.std.specs.Prelude.{◌≡◌, ◌*◌, ◌<◌, ◌≤◌, nat_le, length, IfOk};
 ghost use Rattle.hlfir_ops.specs.declared.op.Op.{out-Op};
 ghost use Rattle.hlfir_ops.specs.RulesLimits as limits;
+ghost use Rattle.hlfir_ops.specs.RulesStatements as statements;
 ghost use Rattle.hlfir_ops.specs.Rules as rules;
-ghost use Rattle.hlfir_verify.specs.Arounds.{around_seen};
+ghost use Rattle.rule_limits.specs.Arounds.{around_seen};
 ghost use Rattle.rule_tests.specs.Seen.{seen};
 
 use crate::around::Around;
 use crate::order::{is_small as is_small_order, ops_in_order, ops_inside};
-use crate::statements::declares;
 use crate::tally::{statement_count, step_count, sum_of};
 use hlfir_ops::{Op, ValueId, ValueKind, What};
 use rule_tests::{Value, ops_in};
@@ -36,6 +36,21 @@ const PHASE_LIMIT: u32 = 512;
 
 /// The most temporaries.
 const TEMPORARY_LIMIT: u32 = 64;
+
+fn is_declare(what: &What) -> bool
+    ensures { result ≡ statements.is_declare what.now }
+{
+    match what {
+        What::Declare(_) => true,
+        _ => false,
+    }
+}
+
+pub fn declares(op: &Op) -> bool
+    ensures { result ≡ statements.declares op.now }
+{
+    is_declare(&op.what)
+}
 
 fn declares_in(ops: &[Op]) -> usize
     ensures value { result ≡ limits.declares_in ops.now }

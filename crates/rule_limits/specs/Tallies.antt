@@ -1,14 +1,13 @@
 -- How the code counts. A number that passes the greatest one stays there.
-use Rattle.std.specs.Prelude.{ℕ, ◌+◌, ◌==◌, Bool, true, false, if◌then◌else◌, min, max, List, [], ◌∷◌, length}
+use Rattle.std.specs.Prelude.{ℕ, ◌+◌, ◌==◌, true, false, if◌then◌else◌, min, max, List, [], ◌∷◌, length}
 use Rattle.hlfir_ops.specs.declared.what.What.{What}
 use Rattle.hlfir_ops.specs.declared.what.What.TheVariants as what
 use Rattle.hlfir_ops.specs.declared.op.ValueId.{ValueId}
 use Rattle.hlfir_ops.specs.declared.op.Op.{Op, out-Op}
 use Rattle.hlfir_ops.specs.RulesValues.{Value, value_at, is_whole}
-use Rattle.hlfir_ops.specs.Numbers.{order_in}
 use Rattle.hlfir_ops.specs.RulesLimits as limits
-use Rattle.hlfir_verify.specs.declared.tally.Tally.{Tally}
-use Rattle.hlfir_verify.specs.declared.tally.Sum.{Sum}
+use Rattle.rule_limits.specs.declared.tally.Tally.{Tally}
+use Rattle.rule_limits.specs.declared.tally.Sum.{Sum}
 
 abbrev pub most : ℕ
 most = 4294967295

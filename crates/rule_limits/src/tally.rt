@@ -4,8 +4,8 @@ ghost use Rattle.std.specs.Prelude.{◌≡◌, IfOk};
 ghost use Rattle.hlfir_ops.specs.RulesLimits as limits;
 ghost use Rattle.rule_tests.specs.Seen.{seen, value_seen};
 ghost use Rattle.rule_tests.specs.Orders.{ops_of};
-ghost use Rattle.hlfir_verify.specs.Tallies as tallies;
-ghost use Rattle.hlfir_verify.specs.Tallies.{capped};
+ghost use Rattle.rule_limits.specs.Tallies as tallies;
+ghost use Rattle.rule_limits.specs.Tallies.{capped};
 
 use crate::order::ops_inside;
 use hlfir_ops::{Op, ValueId, What};

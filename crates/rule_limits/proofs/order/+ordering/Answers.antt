@@ -1,6 +1,6 @@
 use Rattle.std.proofs.Common.{◌∙◌}
-use Rattle.hlfir_verify.proofs.Orders.{next_op}
-use Rattle.hlfir_verify.proofs.order.+ordering.Goals as goal
+use Rattle.rule_limits.proofs.Orders.{next_op}
+use Rattle.rule_limits.proofs.order.+ordering.Goals as goal
 
 pub add_ops-each-preserved : goal.add_ops-each-preserved
 add_ops-each-preserved t c = c.each.invariant ∙ next_op c.args.ops.now c.each.op-index c.op-item.result c.as_slice.result.now c.each.order.items c.add_op.new.order.items c.add_regions.new.order.items

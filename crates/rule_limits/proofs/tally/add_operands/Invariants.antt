@@ -1,7 +1,7 @@
 use Rattle.std.proofs.Common.{◌≡◌, drop}
 use Rattle.rule_tests.specs.Seen.{seen}
-use Rattle.hlfir_verify.specs.Tallies.{with_wholes}
-use Rattle.hlfir_verify.proofs.tally.add_operands.Given as goal
+use Rattle.rule_limits.specs.Tallies.{with_wholes}
+use Rattle.rule_limits.proofs.tally.add_operands.Given as goal
 
 abbrev pub invariant-each : goal.invariant-each
 invariant-each l = with_wholes (seen l.table) l.tally (drop l.v-index l.operands) ≡ with_wholes (seen l.table) l.initial.tally l.operands

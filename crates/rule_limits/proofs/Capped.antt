@@ -10,10 +10,10 @@ use Rattle.hlfir_ops.specs.RulesValues.{Value, value_at, is_whole}
 use Rattle.hlfir_ops.specs.Numbers.{order_in}
 use Rattle.hlfir_ops.specs.declared.op.Region.{Region}
 use Rattle.hlfir_ops.specs.RulesLimits as limits
-use Rattle.hlfir_verify.specs.declared.tally.Tally.{Tally}
-use Rattle.hlfir_verify.specs.declared.tally.Sum.{Sum}
-use Rattle.hlfir_verify.specs.Tallies as tallies
-use Rattle.hlfir_verify.specs.Tallies.{most, plus, capped}
+use Rattle.rule_limits.specs.declared.tally.Tally.{Tally}
+use Rattle.rule_limits.specs.declared.tally.Sum.{Sum}
+use Rattle.rule_limits.specs.Tallies as tallies
+use Rattle.rule_limits.specs.Tallies.{most, plus, capped}
 
 -- ---- numbers
 

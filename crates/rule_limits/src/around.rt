@@ -2,7 +2,7 @@
 
 ghost use Rattle.std.specs.Prelude.{◌≡◌, IfSome};
 ghost use Rattle.hlfir_ops.specs.RulesPlaces as places;
-ghost use Rattle.hlfir_verify.specs.Arounds.{around_seen};
+ghost use Rattle.rule_limits.specs.Arounds.{around_seen};
 
 use hlfir_ops::What;
 

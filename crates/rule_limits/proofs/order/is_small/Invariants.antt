@@ -1,7 +1,7 @@
 use Rattle.std.proofs.Common.{◌≡◌, ◌≤◌, ◌+◌, drop}
 use Rattle.hlfir_ops.specs.RulesLimits.{size_of}
 use Rattle.rule_tests.specs.Orders.{ops_of}
-use Rattle.hlfir_verify.proofs.order.is_small.Given as goal
+use Rattle.rule_limits.proofs.order.is_small.Given as goal
 
 abbrev pub invariant-each : goal.invariant-each
 invariant-each l = (l.size ≤ 65536) × (l.size + size_of (ops_of (drop l.op-index l.order)) ≡ size_of (ops_of l.order))
