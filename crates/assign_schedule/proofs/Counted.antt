@@ -1,5 +1,5 @@
 -- How many ops stand inside an op, by its parts.
-use Rattle.std.proofs.Common.{◌≡◌, refl, ap, sym, ◌∙◌, ℕ, suc, ◌+◌, ◌<◌, List, [], ◌∷◌, ◌++◌, length, drop, get_or, arith, length-append, add-one}
+use Rattle.std.proofs.Common.{◌≡◌, ap, sym, ◌∙◌, ℕ, ◌+◌, ◌<◌, List, length, drop, get_or, arith, length-append, add-one}
 use Rattle.hlfir_ops.specs.declared.op.Op.{Op, out-Op}
 use Rattle.hlfir_ops.specs.declared.op.Region.{Region, out-Region}
 use Rattle.hlfir_ops.specs.Numbers.{op_order, order_of, order_in}

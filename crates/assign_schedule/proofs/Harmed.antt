@@ -1,12 +1,11 @@
 -- Whether a write harms one of several reads.
-use Rattle.std.proofs.Common.{◌≡◌, refl, ap, sym, ◌∙◌, ℕ, Bool, true, false, List, [], ◌∷◌, ◌++◌, map, None, if◌then◌else◌}
+use Rattle.std.proofs.Common.{◌≡◌, refl, ap, sym, ◌∙◌, ℕ, Bool, true, false, List, [], ◌∷◌, ◌++◌, map, None}
 use Rattle.std.specs.Prelude.{◌||◌}
 use Rattle.std.specs.List.{flat_map, list_any}
 use Rattle.std.proofs.lemmas.List.Folds.{list_any-append}
 use Rattle.hlfir_ops.specs.declared.op.ValueId.{ValueId}
 use Rattle.hlfir_ops.specs.declared.op.Op.{Op}
 use Rattle.alias_test.specs.declared.designator.Designator.{Designator}
-use Rattle.alias_test.specs.declared.designator.Relation.{Relation}
 use Rattle.alias_test.specs.Normal.{designator_at}
 use Rattle.alias_test.specs.Relations.{relation}
 use Rattle.assign_schedule.specs.declared.way.Way.{Way}

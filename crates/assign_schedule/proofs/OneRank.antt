@@ -1,6 +1,6 @@
 -- Designators of one variable have equally many forms in a module that keeps the rules.
-use Rattle.std.proofs.Common.{◌≡◌, refl, ap, sym, ◌∙◌, subst, ℕ, zero, suc, Bool, true, false, List, [], ◌∷◌, ◌++◌, map, inl, inr, ◌⊎◌, Option, Some, None}
-use Rattle.std.specs.Prelude.{slice_get, ◌||◌}
+use Rattle.std.proofs.Common.{◌≡◌, refl, ap, sym, ◌∙◌, ℕ, zero, suc, true, false, List, [], ◌∷◌, ◌++◌, map, inl, inr, ◌⊎◌, Option, Some, None}
+use Rattle.std.specs.Prelude.{slice_get}
 use Rattle.std.specs.List.{AllZip}
 use Rattle.std.proofs.lemmas.Bool.{false≢true, or_cases}
 use mathlib.Core.Former.{Count}
@@ -21,8 +21,6 @@ use Rattle.hlfir_ops.specs.RulesForms.{rank_of_kind}
 use Rattle.hlfir_ops.specs.RulesStatements.{is_forall}
 use Rattle.hlfir_ops.specs.RulesValues.{Value, own_values, value_of_name, op_values, regions_values, ops_values, values_of, kind_of, is_target, is_place, is_reference, is_section}
 use Rattle.alias_test.specs.Givers.{own_givers, op_givers, regions_givers, ops_givers, givers_of, kind_given}
-use Rattle.alias_test.specs.Laws.{IsDesignator}
-use Rattle.alias_test.specs.Normal.{designator_at}
 use Rattle.alias_test.proofs.Dimensions.{EachHasItsDimensions-all}
 use Rattle.assign_schedule.specs.Parts.{is_array_by, is_array_given, is_element_by, is_element_given, is_part_of_array, IsPart, HaveOneRank}
 

@@ -1,5 +1,5 @@
 -- The decisions for small modules.
-use Rattle.std.proofs.Common.{◌≡◌, refl, ℕ, ◌+◌, true, false, List, [], ◌∷◌, ◌++◌, pos, negsuc}
+use Rattle.std.proofs.Common.{◌≡◌, refl, ℕ, ◌+◌, true, false, List, [], ◌∷◌, ◌++◌, negsuc}
 use Rattle.hlfir_ops.specs.declared.kinds.Elem.TheVariants.{I32, I1}
 use Rattle.hlfir_ops.specs.declared.kinds.ValueKind.TheVariants.{Array}
 use Rattle.hlfir_ops.specs.declared.what.BoundWord.TheVariants as bound

@@ -1,19 +1,19 @@
 -- Sets of wanted values, by their members.
-use Rattle.std.proofs.Common.{◌≡◌, refl, ap, sym, ◌∙◌, subst, ℕ, suc, ◌+◌, ◌<◌, ◌≤◌, Bool, true, false, cond, List, [], ◌∷◌, ◌++◌, map, length, take, get_or, Option, Some, None, arith, append_assoc, Ordering, if◌then◌else◌, max}
+use Rattle.std.proofs.Common.{◌≡◌, refl, ap, sym, ◌∙◌, subst, ℕ, suc, ◌+◌, ◌<◌, ◌≤◌, Bool, true, false, cond, List, [], ◌∷◌, ◌++◌, map, length, take, get_or, Option, Some, arith, append_assoc, Ordering, if◌then◌else◌, max}
 use Rattle.std.specs.Prelude.{nat_lt, nat_le, ◌||◌, slice_get}
 use Rattle.std.proofs.lemmas.Bool.{ltb-true, lt-leb, leb-false, or_from, or_parts}
 use Rattle.std.specs.Ordering.{nat_cmp, match_ordering}
 use Rattle.std.specs.declared.cmp.Ordering.TheVariants.{Less, Equal, Greater}
 use Rattle.std.specs.BTreeSet.{insert_key}
 use Rattle.std.specs.List.{All, filter, flat_map, list_any}
-use Rattle.std.proofs.Math.Bool.{or_comm, or_assoc}
+use Rattle.std.proofs.Math.Bool.{or_comm}
 use Rattle.std.proofs.lemmas.List.Concat.{flat_map-append}
 use Rattle.std.proofs.lemmas.List.Elements.{filter-append, All-push}
 use Rattle.std.proofs.lemmas.List.Folds.{list_any-append, list_any_none}
 use Rattle.std.proofs.lemmas.Cmp.{ranked}
 use Rattle.std.proofs.lemmas.Map.Lookups.{exact_unsigned}
 use Rattle.hlfir_ops.specs.declared.op.ValueId.{ValueId}
-use Rattle.hlfir_ops.specs.declared.op.Op.{Op, out-Op}
+use Rattle.hlfir_ops.specs.declared.op.Op.{Op}
 use Rattle.rule_tests.proofs.Appended.{before_next, append_none, map_append}
 use Rattle.assign_schedule.specs.Parts.{is_array_given}
 use Rattle.assign_schedule.specs.Reads.{applied}

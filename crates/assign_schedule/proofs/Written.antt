@@ -1,5 +1,5 @@
 -- Short words for modules that are written out, and for what is decided for them.
-use Rattle.std.proofs.Common.{◌≡◌, ℕ, Bool, true, false, List, [], ◌∷◌, ◌++◌, map, Option, Some, None, ℤ, pos}
+use Rattle.std.proofs.Common.{ℕ, Bool, true, false, List, [], ◌∷◌, ◌++◌, map, Some, None, ℤ, pos}
 use Rattle.ws_base.specs.declared.name.Name.{Name}
 use Rattle.ws_space.specs.Shapes.{shape_of}
 use Rattle.hlfir_ops.specs.declared.kinds.Elem.{Elem}
@@ -9,17 +9,14 @@ use Rattle.hlfir_ops.specs.declared.kinds.ValueKind.TheVariants as kind
 use Rattle.hlfir_ops.specs.declared.what.SubKind.{SubKind}
 use Rattle.hlfir_ops.specs.declared.what.SubKind.TheVariants as sub
 use Rattle.hlfir_ops.specs.declared.what.ValueBinary.{ValueBinary}
-use Rattle.hlfir_ops.specs.declared.what.ValueBinary.TheVariants as binary
 use Rattle.hlfir_ops.specs.declared.what.ValueUnary.TheVariants as unary
 use Rattle.hlfir_ops.specs.declared.what.What.{What}
 use Rattle.hlfir_ops.specs.declared.what.What.TheVariants as what
 use Rattle.hlfir_ops.specs.declared.op.ValueId.{ValueId}
 use Rattle.hlfir_ops.specs.declared.op.Op.{Op}
-use Rattle.hlfir_ops.specs.declared.op.Module.{Module}
 use Rattle.hlfir_ops.specs.Trees.{op_of, region_of}
 use Rattle.hlfir_ops.specs.Opened.{trees_open}
 use Rattle.assign_schedule.specs.declared.entry.Planned.{Planned}
-use Rattle.assign_schedule.specs.declared.entry.Schedule.{Schedule}
 use Rattle.assign_schedule.specs.Saved.{saved}
 
 -- what lets the decisions compute on a module that is written out

@@ -1,5 +1,5 @@
 -- A module has one answer.
-use Rattle.std.proofs.Common.{◌≡◌, refl, sym, ◌∙◌, ℕ, zero, suc, ◌<◌, ◌≤◌, Bool, true, false, inl, inr, ◌⊎◌, List, [], ◌∷◌, ◌++◌, Option, Some, None, Result, Ok, Err, arith}
+use Rattle.std.proofs.Common.{◌≡◌, refl, ℕ, zero, suc, ◌<◌, Bool, true, false, inl, inr, ◌⊎◌, List, [], ◌∷◌, ◌++◌, Option, Some, None, Result, Ok, Err, arith}
 use Rattle.std.specs.Prelude.{slice_get}
 use Rattle.std.specs.List.{list_all}
 use Rattle.std.proofs.lemmas.Bool.{cases_lt, and_parts}
@@ -9,7 +9,7 @@ use Rattle.hlfir_ops.specs.Rules.{Facts, facts_of, kept, keeps, KeepsRules}
 use Rattle.hlfir_verify.specs.declared.ending.Rule.{Rule}
 use Rattle.hlfir_verify.specs.declared.ending.VerifyEnd.{VerifyEnd}
 use Rattle.hlfir_verify.specs.declared.ending.VerifyEnd.TheVariants as end
-use Rattle.hlfir_verify.specs.Verdicts.{form_rules, statement_rules, unless, first_broken, least_broken, verdict, verdicts, judged}
+use Rattle.hlfir_verify.specs.Verdicts.{form_rules, statement_rules, first_broken, least_broken, verdict, verdicts, judged}
 use Rattle.hlfir_verify.specs.Walks.{module_verdicts, IsFirstBroken}
 use Rattle.hlfir_verify.specs.Laws.{KeepsOrBreaks, KeptHasNoBroken, HasOneFirstBroken}
 use Rattle.hlfir_verify.proofs.Ended.{sites_kept, first_broken_at}

@@ -1,5 +1,5 @@
 -- What the verdicts on all ops say of the module.
-use Rattle.std.proofs.Common.{◌≡◌, refl, ap, sym, ◌∙◌, subst, ℕ, zero, suc, ◌+◌, ◌<◌, ◌≤◌, Bool, true, false, ◌&&◌, List, [], ◌∷◌, ◌++◌, map, length, Option, Some, None, Result, Ok, Err, arith}
+use Rattle.std.proofs.Common.{◌≡◌, refl, ap, sym, ◌∙◌, subst, ℕ, zero, suc, ◌+◌, ◌<◌, ◌≤◌, Bool, true, false, ◌&&◌, List, [], ◌∷◌, ◌++◌, length, Option, Some, None, Result, Ok, Err, arith}
 use Rattle.std.specs.Prelude.{slice_get, MatchResult}
 use Rattle.std.specs.List.{list_all}
 use Rattle.hlfir_ops.specs.declared.op.Op.{Op}
@@ -9,7 +9,7 @@ use Rattle.hlfir_ops.specs.Rules.{Facts, facts_of, kept, keeps, KeepsRules}
 use Rattle.hlfir_verify.specs.declared.ending.Rule.{Rule}
 use Rattle.hlfir_verify.specs.declared.ending.VerifyEnd.{VerifyEnd}
 use Rattle.hlfir_verify.specs.declared.ending.VerifyEnd.TheVariants as end
-use Rattle.hlfir_verify.specs.Verdicts.{form_rules, statement_rules, unless, first_broken, least_broken, verdict, verdicts, judged, Tells}
+use Rattle.hlfir_verify.specs.Verdicts.{form_rules, statement_rules, unless, first_broken, least_broken, verdict, verdicts, judged}
 use Rattle.hlfir_verify.specs.Walks.{module_verdicts, IsFirstBroken, Ends}
 use Rattle.hlfir_verify.proofs.Judged.{Told}
 

@@ -1,5 +1,5 @@
 -- Ops judged one after another.
-use Rattle.std.proofs.Common.{◌≡◌, refl, ap, sym, ◌∙◌, subst, ℕ, suc, ◌+◌, ◌<◌, ◌≤◌, List, [], ◌∷◌, ◌++◌, map, length, get_or, take, drop, Option, Some, None, Result, Ok, Err, arith, add-one}
+use Rattle.std.proofs.Common.{◌≡◌, refl, ap, sym, ◌∙◌, subst, ℕ, suc, ◌+◌, ◌<◌, List, [], ◌∷◌, ◌++◌, length, get_or, take, drop, Option, Some, None, Result, Ok, Err, arith, add-one}
 use Rattle.std.specs.Result.{IsErrAnd}
 use Rattle.ws_base.specs.Outcomes.{◌>>=◌}
 use Rattle.hlfir_ops.specs.declared.what.What.{What}

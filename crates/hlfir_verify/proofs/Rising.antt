@@ -1,14 +1,10 @@
 -- Numbers that rise.
-use Rattle.std.proofs.Common.{◌≡◌, refl, ap, sym, ◌∙◌, subst, ℕ, suc, ◌+◌, ◌-◌, ◌<◌, ◌≤◌, min, inl, inr, List, [], ◌∷◌, ◌++◌, length, get_or, take, Option, Some, None, arith, append_assoc, length-append}
+use Rattle.std.proofs.Common.{◌≡◌, ap, ◌∙◌, ℕ, ◌-◌, ◌≤◌, inl, inr, List, [], ◌∷◌, ◌++◌, length, get_or, take, arith, length-append}
 use Rattle.std.proofs.lemmas.Bool.{cases_lt}
 use Rattle.std.proofs.Math.ListN.{get_or-append}
 use Rattle.std.proofs.Math.Seq.{get_or-append_seam}
 use Rattle.std.proofs.lemmas.List.{take-append-le, get_or_default, get_or-take, length-take}
 use Rattle.std.proofs.lemmas.List.Sorted.{IsNonDecreasingBy-push, IsNonDecreasingBy-take}
-use Rattle.ws_base.specs.declared.name.Name.{Name}
-use Rattle.hlfir_ops.specs.declared.kinds.ValueKind.{ValueKind}
-use Rattle.hlfir_ops.specs.RulesPlaces.{from_number, own_defined}
-use Rattle.rule_tests.proofs.Appended.{append_none}
 use Rattle.hlfir_verify.specs.Rising.{Rises}
 
 pub Rises-more : (ns : List ℕ) (n m : ℕ) → n ≤ m → Rises ns n → Rises ns m

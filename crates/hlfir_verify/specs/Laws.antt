@@ -1,5 +1,5 @@
 -- What the two answers of a check say of a module.
-use Rattle.std.specs.Prelude.{◌≡◌, ℕ, ◌⊎◌, List, map}
+use Rattle.std.specs.Prelude.{◌≡◌, ℕ, ◌⊎◌, map}
 use Rattle.hlfir_ops.specs.declared.op.Op.{Op}
 use Rattle.hlfir_ops.specs.declared.op.Module.{Module}
 use Rattle.hlfir_ops.specs.Numbers.{order_of}

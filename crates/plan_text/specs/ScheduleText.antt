@@ -1,7 +1,6 @@
 -- A schedule as text: a line for each decision.
 use Rattle.std.specs.Prelude.{ℕ, Bool, true, false, if◌then◌else◌, List, [], ◌∷◌, ◌++◌, Option, Some, None, codes, decimal, slice_get}
 use Rattle.std.specs.List.{flat_map}
-use Rattle.ws_base.specs.declared.name.Name.{Name}
 use Rattle.hlfir_ops.specs.declared.what.What.{What}
 use Rattle.hlfir_ops.specs.declared.what.What.TheVariants.{Declare}
 use Rattle.hlfir_ops.specs.declared.op.ValueId.{ValueId}

@@ -1,7 +1,6 @@
 //! What is decided for a module, as text. Read `specs/ScheduleText.antt` first.
 #![tactic(auto)]
 
-mod order;
 mod scheduled;
 #[cfg(test)]
 mod tests;

@@ -7,12 +7,12 @@ ghost use Rattle.alias_test.specs.Givers.{givers_of, op_at, ops_at};
 ghost use Rattle.assign_schedule.specs.Saved.{saved};
 ghost use Rattle.plan_text.specs.ScheduleText as texts;
 
-use crate::order::ops_in_order;
 use alias_test::{designator_in, givers};
 use assign_schedule::{Planned, Schedule, left_side};
 use hlfir_ops::{Module, Op, ValueId, What};
 use hlfir_verify::Verified;
 use itoa::{Buffer, Integer};
+use rule_limits::ops_in_order;
 use std::alloc::{AllocError, Global};
 
 fn put_integer<I: Integer>(text: &mut Vec<u8>, value: I) -> Result<(), AllocError>

@@ -1,6 +1,5 @@
 use Rattle.std.proofs.Common.{◌∙◌, sym}
-use Rattle.std.proofs.lemmas.Bool.{not-false}
-use Rattle.assign_schedule.proofs.Wanting.{inserted, not_inserted}
+use Rattle.assign_schedule.proofs.Wanting.{inserted}
 use Rattle.assign_schedule.proofs.reach.want_one.Goals as goal
 
 pub returns : goal.returns

@@ -1,4 +1,4 @@
-use Rattle.std.proofs.Common.{◌∙◌, ap, sym}
+use Rattle.std.proofs.Common.{◌∙◌}
 use Rattle.assign_schedule.specs.Seen.{items_seen}
 use Rattle.assign_schedule.proofs.Walked.{op_walked, op_placed, op_numbered, next_op, next_place, next_number, next_region, next_region_place, next_region_number}
 use Rattle.assign_schedule.proofs.walk.+walking.Goals as goal

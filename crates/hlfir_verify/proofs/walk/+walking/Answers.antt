@@ -1,8 +1,8 @@
-use Rattle.std.proofs.Common.{◌≡◌, ℕ, ◌+◌, ◌∙◌, ◌++◌, sym, ap, subst, List, Result, Ok, Err, length, take, drop, rules, arith}
+use Rattle.std.proofs.Common.{◌≡◌, ℕ, ◌+◌, ◌∙◌, ◌++◌, sym, ap, subst, List, Result, Ok, Err, length, take}
 use Rattle.hlfir_ops.specs.declared.op.Op.{out-Op}
 use Rattle.hlfir_ops.specs.declared.op.Region.{out-Region}
-use Rattle.hlfir_ops.specs.Numbers.{own_numbers, op_numbers}
-use Rattle.hlfir_ops.specs.RulesPlaces.{op_sites, sites_in, from_number, own_defined}
+use Rattle.hlfir_ops.specs.Numbers.{op_numbers}
+use Rattle.hlfir_ops.specs.RulesPlaces.{own_defined}
 use Rattle.hlfir_verify.specs.declared.ending.VerifyEnd.{VerifyEnd}
 use Rattle.rule_limits.specs.Arounds.{around_seen}
 use Rattle.hlfir_verify.specs.Looks.{facts_seen}
