@@ -26,7 +26,7 @@ kept_array r (a ∷ b ∷ c ∷ d ∷ more) xs h some few = absurd (omega (arith
 pub dims_length : (a : ArrayValue) (r : ℕ) → a.shape.rank ≡ r → r ≤ 3 → length (dims a.shape) ≡ r
 dims_length a r same few = length-take-le a.shape.rank (a.shape.d1 ∷ a.shape.d2 ∷ a.shape.d3 ∷ []) (omega (arith, same, few)) ∙ same
 
-declared_fits : (e : Elem) (shape : Shape) (ds : List Dim) (xs : List ℤ) → length ds ≡ shape.rank → (shape.rank == 0) ≡ false → shape.rank ≤ 3 → Fits (kind.Declared e shape) (kept ds xs)
+pub declared_fits : (e : Elem) (shape : Shape) (ds : List Dim) (xs : List ℤ) → length ds ≡ shape.rank → (shape.rank == 0) ≡ false → shape.rank ≤ 3 → Fits (kind.Declared e shape) (kept ds xs)
 declared_fits e shape ds xs long some few = let c = kept_array shape.rank ds xs long some few in subst (Fits (kind.Declared e shape)) (sym c.1) c.2
 
 pub allocatable_fits : (e : Elem) (rank : ℕ) (ds : List Dim) (xs : List ℤ) → length ds ≡ rank → (rank == 0) ≡ false → rank ≤ 3 → Fits (kind.Allocatable e rank) (kept ds xs)
