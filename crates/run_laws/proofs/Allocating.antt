@@ -36,7 +36,7 @@ use Rattle.kind_laws.proofs.NoFaults.{none_first, none_after, not_broken}
 use Rattle.value_laws.specs.Variables.{Fits}
 use Rattle.world_laws.specs.Worlds.{FitsNames}
 use Rattle.world_laws.specs.Meanings.{ListsMean}
-use Rattle.run_laws.proofs.Fitting.{FitsWhereDeclared, takes_state, state_fits}
+use Rattle.world_laws.proofs.Fitting.{FitsWhereDeclared, takes_state, state_fits}
 use Rattle.run_laws.proofs.States.{allocated-fits}
 use Rattle.run_laws.proofs.Headers.{dims_are}
 use Rattle.run_laws.proofs.Parts.{statement-allocate}

@@ -26,7 +26,7 @@ use Rattle.lower_assign.specs.Statements.{deallocation}
 use Rattle.kind_laws.proofs.NoFaults.{none_first, none_after}
 use Rattle.value_laws.specs.Variables.{Fits}
 use Rattle.world_laws.specs.Worlds.{FitsNames}
-use Rattle.run_laws.proofs.Fitting.{FitsWhereDeclared, takes_state}
+use Rattle.world_laws.proofs.Fitting.{FitsWhereDeclared, takes_state}
 use Rattle.run_laws.proofs.States.{freed-fits}
 use Rattle.run_laws.proofs.Parts.{statement-deallocate}
 use Rattle.run_laws.proofs.Items.{MakesItems, later_items}

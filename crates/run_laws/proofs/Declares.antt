@@ -22,7 +22,6 @@ use Rattle.array_meaning.specs.Forall.{scalar}
 use Rattle.array_meaning.specs.Program as source
 use Rattle.array_meaning.specs.Program.{constants_alone, staged_or, declaring, declared}
 use Rattle.hlfir_ops.specs.declared.kinds.Elem.{Elem}
-use Rattle.hlfir_ops.specs.declared.kinds.ValueKind.TheVariants as kind
 use Rattle.hlfir_ops.specs.RulesValues.{elem_of, rank_of}
 use Rattle.hlfir_meaning.specs.Meaning.{is_truth, first_state}
 use Rattle.lower_assign.specs.declared.names.Variable.{Variable}
@@ -33,7 +32,8 @@ use Rattle.small_laws.proofs.Constancy.{Agree, IsComputed, computed, scalar_is, 
 use Rattle.small_laws.proofs.Constants.{HasOnly, agree_after, only_after}
 use Rattle.value_laws.specs.Variables.{Fits}
 use Rattle.world_laws.specs.Worlds.{FitsDeclare, FitDeclares}
-use Rattle.run_laws.proofs.States.{shape_rank, kept-array, array_fits}
+use Rattle.world_laws.proofs.Filling.{declared_fits}
+use Rattle.run_laws.proofs.States.{shape_rank}
 use Rattle.run_laws.proofs.Extended.{Extends, constancy-extends}
 
 -- ---- bounds
@@ -117,7 +117,7 @@ first_fits cs e false (b ∷ bs) narrow =
     let rank = rank_is cs (b ∷ bs) narrow in
     let many : length (dims shape) ≡ shape.rank = ap length (dims_are cs (b ∷ bs) narrow) ∙ (length-map (b ∷ bs) (bound_dim cs) ∙ sym rank) in
     let some : (shape.rank == 0) ≡ false = grind (arith, rank) in
-    array_fits shape.rank (zeros (dims shape)) (kept-array (dims shape) _ shape.rank many some (subst (λ n. n ≤ 3) (sym rank) narrow)) some (kind.Declared e shape) (λ a is. is)
+    declared_fits e shape (dims shape) _ many some (subst (λ n. n ≤ 3) (sym rank) narrow)
 
 -- ---- all variables
 

@@ -22,7 +22,7 @@ use Rattle.kind_laws.proofs.NoFaults.{none_first, none_after, not_broken, not_fa
 use Rattle.kind_laws.proofs.ScopesKnown.{entry_variable}
 use Rattle.small_laws.proofs.Tables.{AreFit, IsFit, standing_fit}
 use Rattle.value_laws.specs.Variables.{Fits}
-use Rattle.run_laws.proofs.Fitting.{FitsWhereDeclared}
+use Rattle.world_laws.proofs.Fitting.{FitsWhereDeclared}
 
 -- ---- ALLOCATE and DEALLOCATE
 

@@ -23,7 +23,7 @@ use Rattle.lower_assign.specs.References.{variable_of, declare_of, or_nothing}
 use Rattle.value_laws.proofs.Ops.{ops_in-first}
 use Rattle.world_laws.specs.Worlds.{FitsNames}
 use Rattle.world_laws.specs.Yields.{region}
-use Rattle.run_laws.proofs.Fitting.{state_fits}
+use Rattle.world_laws.proofs.Fitting.{state_fits}
 
 -- the ops of the first region, whose op gives no value and brings no index names there
 abbrev pub inner_ops : What → ℕ → Lowering ⊤ → Scope → ℕ → List Op

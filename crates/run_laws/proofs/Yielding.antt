@@ -22,7 +22,7 @@ use Rattle.value_laws.specs.Standing.{Goes}
 use Rattle.value_laws.proofs.Ops.{ending}
 use Rattle.world_laws.specs.Yields.{region, scalars_of}
 use Rattle.world_laws.specs.Meanings.{StandsOutside, IsIntegerScalar, ListsMean}
-use Rattle.run_laws.proofs.Listing.{IsList}
+use Rattle.world_laws.proofs.Listing.{IsList}
 
 -- the region faults as the scalars do, or yields values that are these
 abbrev pub YieldsScalars : World → ℕ → List Op → Staged (List ℤ) → Type 0
