@@ -30,9 +30,9 @@ use Rattle.lower_assign.specs.Lowerings.{scoped, ◌>>=◌ as ◌then◌}
 use Rattle.lower_assign.specs.References.{variable_of, or_nothing, declare_of, boxed, reference, first_name, dimension_in, bound_word, bound_or_size, is_allocated, inquiry_of, inquiry_or_nothing, inquiry}
 use Rattle.kind_laws.specs.Standing.{Knows}
 use Rattle.kind_laws.proofs.NoFaults.{impossible}
+use Rattle.world_laws.proofs.Fitting.{DeclaredAt, state_fits}
 use Rattle.forall_laws.specs.Walks.{DoesOver, IsColumn, IsReference}
 use Rattle.forall_laws.specs.Combined.{StandsOver}
-use Rattle.forall_laws.proofs.Fitting.{DeclaredAt, state_fits}
 use Rattle.forall_laws.proofs.Walking.{over-then, over-scoped}
 use Rattle.forall_laws.proofs.Columns.{each-over}
 use Rattle.forall_laws.proofs.References.{over-bound_or_size, over-is_allocated, over-boxed}

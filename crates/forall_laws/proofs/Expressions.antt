@@ -46,9 +46,9 @@ use Rattle.kind_laws.proofs.TypedExpressions.{type_known}
 use Rattle.kind_laws.proofs.FormsMade.{AreTyped}
 use Rattle.value_laws.specs.Standing.{Kept}
 use Rattle.value_laws.proofs.Columns.{IsNesting, totals, each-totals, call_map-last}
+use Rattle.world_laws.proofs.Fitting.{state_fits}
 use Rattle.forall_laws.specs.Walks.{DoesOver, IsColumn, AreColumns, IsReference, AreSubscripts, ArePlaces}
 use Rattle.forall_laws.specs.Combined.{StandsOver}
-use Rattle.forall_laws.proofs.Fitting.{state_fits}
 use Rattle.forall_laws.proofs.Walking.{over-done, over-then}
 use Rattle.forall_laws.proofs.Columns.{rows-over, same-over, elements-placed}
 use Rattle.forall_laws.proofs.Given.{column-later, stands-later, over-constant}

@@ -43,16 +43,17 @@ use Rattle.kind_laws.proofs.TypedExpressions.{type_known}
 use Rattle.kind_laws.proofs.Sides.{sides_are_expressions}
 use Rattle.value_laws.specs.Standing.{Kept, Goes}
 use Rattle.value_laws.proofs.Ops.{ending, parts-op_of}
+use Rattle.value_laws.proofs.VectorNumbers.{subscripts-append}
 use Rattle.world_laws.specs.Yields.{region, scalars_of}
 use Rattle.world_laws.specs.Meanings.{StandsOutside, IsIntegerScalar, AreVectorsOf, ListsMean}
+use Rattle.world_laws.proofs.Listing.{stride_of, triple_exprs, three, triple-list}
 use Rattle.forall_laws.specs.Headers.{HeadersMean}
 use Rattle.forall_laws.specs.Owned.{OwnIn, SubscriptsAreOwn}
 use Rattle.forall_laws.proofs.Axes.{piece-starts, piece-low, axes-piece, axes-walked, stepping-three}
 use Rattle.forall_laws.proofs.LastOps.{EndsAt}
 use Rattle.forall_laws.proofs.LastValues.{ends-value}
-use Rattle.forall_laws.proofs.Listing.{stride_of, triple_exprs, three, triple-list}
 use Rattle.forall_laws.proofs.Sides.{zero_rank}
-use Rattle.forall_laws.proofs.Vectors.{subscripts-append, own-append, vectors-first, vectors-after}
+use Rattle.forall_laws.proofs.Vectors.{own-append, vectors-first, vectors-after}
 
 -- ---- the expressions of an index
 

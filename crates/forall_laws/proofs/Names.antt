@@ -44,9 +44,9 @@ use Rattle.value_laws.specs.Names.{IfValue}
 use Rattle.kind_laws.specs.Standing.{FitsEntry, EntryIsKnown, NameIsKnown}
 use Rattle.kind_laws.proofs.TypeFacts.{no_type, same_type}
 use Rattle.world_laws.specs.Worlds.{constant_value, FitsDeclare, FitDeclares, ConstantFits}
+use Rattle.world_laws.proofs.Fitting.{state_fits}
 use Rattle.forall_laws.specs.Walks.{DoesOver, IsColumn}
 use Rattle.forall_laws.specs.Combined.{IndexStands, StandsOver}
-use Rattle.forall_laws.proofs.Fitting.{state_fits}
 use Rattle.forall_laws.proofs.Walking.{over-done, over-then, over-scoped}
 use Rattle.forall_laws.proofs.Columns.{map-over, map-same, same-over, index-value, constant-value, variable-value}
 use Rattle.forall_laws.proofs.Constants.{NamesAreSame, constant-same}
