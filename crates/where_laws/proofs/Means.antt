@@ -36,6 +36,7 @@ use Rattle.kind_laws.proofs.Sides.{sides_are_expressions}
 use Rattle.kind_laws.proofs.Grammar.{where_parts}
 use Rattle.kind_laws.proofs.Faultless.{where_faultless}
 use Rattle.world_laws.specs.Meanings.{StandsOutside, ValuesMean, LeftsMean, LeavesWorld, MeansStatement, SimpleMeans}
+use Rattle.world_laws.proofs.Fitting.{as_many}
 use Rattle.where_laws.specs.Laws.{IsAssignmentOrWhere, AssignmentsAndWheresMean}
 use Rattle.where_laws.proofs.Same.{Same}
 use Rattle.where_laws.proofs.Places.{IsPlaced}
@@ -43,7 +44,7 @@ use Rattle.where_laws.proofs.Assigned.{Whole, steps_same}
 use Rattle.where_laws.proofs.Plain.{plain_same}
 use Rattle.where_laws.proofs.Forms.{inside-assign}
 use Rattle.where_laws.proofs.Alike.{Alike, steps_stand}
-use Rattle.where_laws.proofs.Regions.{InScope, declares_length, assignment_stands}
+use Rattle.where_laws.proofs.Regions.{InScope, assignment_stands}
 use Rattle.where_laws.proofs.WhereFacts.{mask_known}
 use Rattle.where_laws.proofs.Constructs.{its_realloc, assign_ops, where_op, masked_ops, where_alike}
 use Rattle.where_laws.proofs.Blocks.{third_is, block_alike, elses_alike}
@@ -70,7 +71,7 @@ module _ (w : What) (line : ℕ) (rs : List Region) (n : ℕ) (vars : List Var) 
 module _ (values : ValuesMean) (lefts : LeftsMean) where
   in_scope : (t : List Row) (s : Scope) (w : World) (n : ℕ) → StandsOutside t s w n → s.masked ≡ false → InScope t false s n
   in_scope t s w n h m =
-      let many = declares_length 0 s.names.variables w.vars h.world.variables in
+      let many = as_many 0 s.names.variables w.vars h.world.variables in
       let few = h.declared in
       record { knows = h.knows; no_index = h.no_index; masked = m; declared = omega (arith, many, few) }
 
