@@ -46,6 +46,7 @@ use Rattle.kind_laws.specs.Laws.{index_names}
 use Rattle.kind_laws.proofs.ScopesKnown.{header_known, forall_known}
 use Rattle.kind_laws.proofs.Grammar.{StandsIn, forall_parts}
 use Rattle.kind_laws.proofs.Faultless.{forall_faultless}
+use Rattle.kind_laws.proofs.Ends.{ops_in-second}
 use Rattle.value_laws.proofs.Ops.{parts-op_of, ops_in-first}
 use Rattle.world_laws.specs.Worlds.{FitsNames}
 use Rattle.world_laws.specs.Yields.{region}
@@ -54,7 +55,6 @@ use Rattle.world_laws.proofs.Fitting.{as_many}
 use Rattle.forall_laws.specs.Combined.{StandsOver}
 use Rattle.forall_laws.specs.Headers.{HeadersMean}
 use Rattle.forall_laws.specs.Owned.{SubscriptsAreOwn}
-use Rattle.forall_laws.proofs.Yields.{ops_in-second}
 use Rattle.forall_laws.proofs.Headers.{headers_mean}
 use Rattle.forall_laws.proofs.Lengths.{AreMany, header-many}
 use Rattle.forall_laws.proofs.Indexes.{indexes-below, index-stands, from_first, no_constant}

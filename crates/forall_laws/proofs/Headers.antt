@@ -1,7 +1,6 @@
 -- The lowered header of a FORALL means what its source means, given lists of scalars.
-use Rattle.std.proofs.Common.{◌≡◌, refl, sym, ap, ◌∙◌, subst, ℕ, ◌+◌, ◌-◌, ◌<◌, ◌≤◌, false, List, [], ◌∷◌, ◌++◌, length, map, All, Option, Some, None, Ok, arith, append-nil, append_assoc, slice_get, if◌then◌else◌}
+use Rattle.std.proofs.Common.{◌≡◌, refl, sym, ap, ◌∙◌, subst, ℕ, ◌+◌, ◌<◌, ◌≤◌, false, List, [], ◌∷◌, ◌++◌, length, map, All, Option, Some, None, Ok, arith, append-nil, append_assoc, if◌then◌else◌}
 use Rattle.std.specs.Prelude.{◌||◌}
-use Rattle.std.proofs.lemmas.List.{length-append}
 use Rattle.std.proofs.lemmas.List.Elements.{All-nil, All-cons, All-head, All-tail}
 use Rattle.ws_base.specs.Outcomes.{Staged, ◌>>=◌}
 use Rattle.ws_space.specs.declared.shape.Triplet.{Triplet}
@@ -26,7 +25,7 @@ use Rattle.hlfir_ops.specs.declared.op.ValueId.{ValueId}
 use Rattle.hlfir_ops.specs.declared.op.Op.{Op}
 use Rattle.hlfir_ops.specs.Trees.{op_of}
 use Rattle.hlfir_ops.specs.Numbers.{numbers_of}
-use Rattle.hlfir_ops.specs.RulesRegions.{parts, parts_of, last_of, is_yield, is_yield_element}
+use Rattle.hlfir_ops.specs.RulesRegions.{parts, parts_of, is_yield, is_yield_element}
 use Rattle.hlfir_meaning.specs.Environments.{scalar, Environment, of_variables, yielding}
 use Rattle.hlfir_meaning.specs.Stage1.{stage1, subscripts_in, subscript_numbers}
 use Rattle.hlfir_meaning.specs.Stage1 as walked
@@ -41,12 +40,13 @@ use Rattle.lower_constructs.specs.Modules.{triple, triples}
 use Rattle.kind_laws.proofs.NoFaults.{none_first, none_after, not_broken}
 use Rattle.kind_laws.proofs.TypedExpressions.{type_known}
 use Rattle.kind_laws.proofs.Sides.{sides_are_expressions}
+use Rattle.kind_laws.proofs.Ends.{last_of-push}
 use Rattle.value_laws.specs.Standing.{Kept, Goes}
 use Rattle.value_laws.proofs.Ops.{ending, parts-op_of}
 use Rattle.value_laws.proofs.VectorNumbers.{subscripts-append}
 use Rattle.world_laws.specs.Yields.{region, scalars_of}
 use Rattle.world_laws.specs.Meanings.{StandsOutside, IsIntegerScalar, AreVectorsOf, ListsMean}
-use Rattle.world_laws.proofs.Listing.{stride_of, triple_exprs, three, triple-list}
+use Rattle.world_laws.proofs.Listing.{stride_of, triple_exprs, three, triple-list, numbers}
 use Rattle.forall_laws.specs.Headers.{HeadersMean}
 use Rattle.forall_laws.specs.Owned.{OwnIn, SubscriptsAreOwn}
 use Rattle.forall_laws.proofs.Axes.{piece-starts, piece-low, axes-piece, axes-walked, stepping-three}
@@ -148,9 +148,6 @@ module _ (lists : ListsMean) (owned : SubscriptsAreOwn) (b : List Row) (line : �
       abbrev three_values : Lowered (List Operand)
       three_values = record { ops = xs; made = first.made ∷ second.made ∷ third.made ∷ [] }
 
-      abbrev numbered : Lowered (List Operand) → Lowered (List ValueId)
-      numbered a = record { ops = a.ops; made = map (λ x. x.value) a.made }
-
       values-are : values (triple_exprs i.l i.u i.s) s m ≡ three_values
       values-are = three i.l i.u (stride_of i.s) s m
 
@@ -159,7 +156,7 @@ module _ (lists : ListsMean) (owned : SubscriptsAreOwn) (b : List Row) (line : �
 
       triples-are : triples (i ∷ is) s m ≡ whole
       triples-are = triples-cons i is s m
-          ∙ ap (λ a. let c = triples is s (m + numbers_of a.ops) in let r : Lowered (List ValueId) = record { ops = a.ops ++ c.ops; made = a.made ++ c.made } in r) (triple-list i.l i.u i.s s m ∙ ap numbered values-are)
+          ∙ ap (λ a. let c = triples is s (m + numbers_of a.ops) in let r : Lowered (List ValueId) = record { ops = a.ops ++ c.ops; made = a.made ++ c.made } in r) (triple-list i.l i.u i.s s m ∙ ap numbers values-are)
 
       own_first : OwnIn base m xs
       own_first = subst (λ a. OwnIn base m a.ops) values-are (owned b line (triple_exprs i.l i.u i.s) s m w stands (all_three b line i h))
@@ -213,21 +210,12 @@ module _ (lists : ListsMean) (owned : SubscriptsAreOwn) (b : List Row) (line : �
 
 -- ---- the whole region
 
-at_end : {A : Type 0} (xs : List A) (x : A) → slice_get (xs ++ x ∷ []) (length xs) ≡ Some x
-at_end [] x = refl
-at_end (y ∷ xs) x = at_end xs x
-
-last_push : (before : List Op) (op : Op) → last_of (before ++ op ∷ []) ≡ Some op
-last_push before op =
-    let many = length-append before (op ∷ []) in
-    let place : length (before ++ op ∷ []) - 1 ≡ length before = omega (arith, many) in ap (slice_get (before ++ op ∷ [])) place ∙ at_end before op
-
 module _ (s : Scope) (vs : List ValueId) where
   abbrev yield : Op
   yield = op_of what.Yield s.line vs None []
 
   yield_parts : (ops : List Op) → parts (ops ++ yield ∷ []) ≡ vs
-  yield_parts ops = ap parts_of (last_push ops yield) ∙ ap (λ f. if is_yield f.what || is_yield_element f.what then f.operands else []) (parts-op_of what.Yield s.line vs None [])
+  yield_parts ops = ap parts_of (last_of-push ops yield) ∙ ap (λ f. if is_yield f.what || is_yield_element f.what then f.operands else []) (parts-op_of what.Yield s.line vs None [])
 
   yield_subscripts : (ops : List Op) → subscript_numbers (ops ++ yield ∷ []) ≡ subscript_numbers ops
   yield_subscripts ops = subscripts-append ops (yield ∷ []) ∙ (ap (λ ns. subscript_numbers ops ++ ns) (ap (λ f. subscripts_in f.what f.operands ++ []) (parts-op_of what.Yield s.line vs None [])) ∙ append-nil (subscript_numbers ops))
