@@ -52,6 +52,7 @@ use Rattle.world_laws.specs.Worlds.{FitsNames}
 use Rattle.world_laws.specs.Yields.{region}
 use Rattle.world_laws.specs.Meanings.{StandsOutside, LeavesWorld, SimpleMeans, ListsMean}
 use Rattle.world_laws.proofs.Fitting.{as_many}
+use Rattle.world_laws.proofs.Leaving.{leaves_after}
 use Rattle.forall_laws.specs.Combined.{StandsOver}
 use Rattle.forall_laws.specs.Headers.{HeadersMean}
 use Rattle.forall_laws.specs.Owned.{SubscriptsAreOwn}
@@ -59,7 +60,6 @@ use Rattle.forall_laws.proofs.Headers.{headers_mean}
 use Rattle.forall_laws.proofs.Lengths.{AreMany, header-many}
 use Rattle.forall_laws.proofs.Indexes.{indexes-below, index-stands, from_first, no_constant}
 use Rattle.forall_laws.proofs.Body.{region_ops, BodyStands}
-use Rattle.forall_laws.proofs.Blocks.{leaves_after}
 use Rattle.forall_laws.proofs.Masked.{BodyMeans, body-means}
 
 -- ---- a run, by the ops of its two regions

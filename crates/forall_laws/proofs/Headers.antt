@@ -23,7 +23,6 @@ use Rattle.array_meaning.specs.Forall as source
 use Rattle.hlfir_ops.specs.declared.what.What.TheVariants as what
 use Rattle.hlfir_ops.specs.declared.op.ValueId.{ValueId}
 use Rattle.hlfir_ops.specs.declared.op.Op.{Op}
-use Rattle.hlfir_ops.specs.Trees.{op_of}
 use Rattle.hlfir_ops.specs.Numbers.{numbers_of}
 use Rattle.hlfir_ops.specs.RulesRegions.{parts, parts_of, is_yield, is_yield_element}
 use Rattle.hlfir_meaning.specs.Environments.{scalar, Environment, of_variables, yielding}
@@ -32,10 +31,9 @@ use Rattle.hlfir_meaning.specs.Stage1 as walked
 use Rattle.hlfir_meaning.specs.Combinations.{axes, header}
 use Rattle.lower_assign.specs.declared.operand.Operand.{Operand}
 use Rattle.lower_assign.specs.Scopes.{Scope}
-use Rattle.lower_assign.specs.Lowerings.{Lowered, Lowering, done, ◌>>=◌ as ◌then◌, acting}
+use Rattle.lower_assign.specs.Lowerings.{Lowered, done, ◌>>=◌ as ◌then◌}
 use Rattle.lower_assign.specs.Values.{value}
 use Rattle.lower_assign.specs.Lists.{values}
-use Rattle.lower_assign.specs.Statements.{all_yielded}
 use Rattle.lower_constructs.specs.Modules.{triple, triples}
 use Rattle.kind_laws.proofs.NoFaults.{none_first, none_after, not_broken}
 use Rattle.kind_laws.proofs.TypedExpressions.{type_known}
@@ -43,10 +41,10 @@ use Rattle.kind_laws.proofs.Sides.{sides_are_expressions}
 use Rattle.kind_laws.proofs.Ends.{last_of-push}
 use Rattle.value_laws.specs.Standing.{Kept, Goes}
 use Rattle.value_laws.proofs.Ops.{ending, parts-op_of}
-use Rattle.value_laws.proofs.VectorNumbers.{subscripts-append}
 use Rattle.world_laws.specs.Yields.{region, scalars_of}
 use Rattle.world_laws.specs.Meanings.{StandsOutside, IsIntegerScalar, AreVectorsOf, ListsMean}
 use Rattle.world_laws.proofs.Listing.{stride_of, triple_exprs, three, triple-list, numbers}
+use Rattle.world_laws.proofs.Yielding.{yield_of, yielded_ops, yield_subscripts}
 use Rattle.forall_laws.specs.Headers.{HeadersMean}
 use Rattle.forall_laws.specs.Owned.{OwnIn, SubscriptsAreOwn}
 use Rattle.forall_laws.proofs.Axes.{piece-starts, piece-low, axes-piece, axes-walked, stepping-three}
@@ -211,21 +209,11 @@ module _ (lists : ListsMean) (owned : SubscriptsAreOwn) (b : List Row) (line : �
 -- ---- the whole region
 
 module _ (s : Scope) (vs : List ValueId) where
-  abbrev yield : Op
-  yield = op_of what.Yield s.line vs None []
+  yield_parts : (ops : List Op) → parts (ops ++ yield_of s vs ∷ []) ≡ vs
+  yield_parts ops = ap parts_of (last_of-push ops (yield_of s vs)) ∙ ap (λ f. if is_yield f.what || is_yield_element f.what then f.operands else []) (parts-op_of what.Yield s.line vs None [])
 
-  yield_parts : (ops : List Op) → parts (ops ++ yield ∷ []) ≡ vs
-  yield_parts ops = ap parts_of (last_of-push ops yield) ∙ ap (λ f. if is_yield f.what || is_yield_element f.what then f.operands else []) (parts-op_of what.Yield s.line vs None [])
-
-  yield_subscripts : (ops : List Op) → subscript_numbers (ops ++ yield ∷ []) ≡ subscript_numbers ops
-  yield_subscripts ops = subscripts-append ops (yield ∷ []) ∙ (ap (λ ns. subscript_numbers ops ++ ns) (ap (λ f. subscripts_in f.what f.operands ++ []) (parts-op_of what.Yield s.line vs None [])) ∙ append-nil (subscript_numbers ops))
-
-  yield_ends : (vectors : List ℕ) (k : ℕ) (rho : Environment) → stage1 vectors k rho (yield ∷ []) ≡ Ok (yielding rho vs)
+  yield_ends : (vectors : List ℕ) (k : ℕ) (rho : Environment) → stage1 vectors k rho (yield_of s vs ∷ []) ≡ Ok (yielding rho vs)
   yield_ends vectors k rho = ending what.Yield s.line vs None [] (walked.once vectors) k rho [] refl
-
-yielded_ops : (p : Lowering (List ValueId)) (s : Scope) (n : ℕ) → (all_yielded p s n).ops ≡ (p s n).ops ++ yield s (p s n).made ∷ []
-unfolding ◌then◌ acting
-yielded_ops p s n = refl
 
 abbrev limit : Staged (List Triplet) → Staged (List Triplet)
 limit r = r >>= (λ ts. limited (lengths ts) ts)
@@ -233,9 +221,9 @@ limit r = r >>= (λ ts. limited (lengths ts) ts)
 pub headers_mean : ListsMean → SubscriptsAreOwn → HeadersMean
 headers_mean lists owned t b line is s n w stands each f =
     let a = triples is s n in
-    let ops = a.ops ++ yield s a.made ∷ [] in
+    let ops = a.ops ++ yield_of s a.made ∷ [] in
     let env = of_variables w.vars in
     ap (λ l. header env (region n l)) (yielded_ops (triples is) s n)
     ∙ (ap (λ ps. limit (axes (subscript_numbers ops) n env ps ops)) (yield_parts s a.made a.ops)
-    ∙ ap limit (axes_mean lists owned b line s w (subscript_numbers ops) (yield s a.made) a.made (yield_ends s a.made (subscript_numbers ops)) is n env stands (λ k low. refl) (scalars_each t b line [] is each f)
+    ∙ ap limit (axes_mean lists owned b line s w (subscript_numbers ops) (yield_of s a.made) a.made (yield_ends s a.made (subscript_numbers ops)) is n env stands (λ k low. refl) (scalars_each t b line [] is each f)
     (λ v low high. ap (is_among v) (yield_subscripts s a.made a.ops))))

@@ -45,6 +45,7 @@ use Rattle.kind_laws.specs.Standing.{FitsEntry, EntryIsKnown, NameIsKnown}
 use Rattle.kind_laws.proofs.TypeFacts.{no_type, same_type}
 use Rattle.world_laws.specs.Worlds.{constant_value, ConstantFits}
 use Rattle.world_laws.proofs.Fitting.{state_fits, absent_state}
+use Rattle.region_laws.proofs.Agreeing.{not-given}
 use Rattle.forall_laws.specs.Walks.{DoesOver, IsColumn}
 use Rattle.forall_laws.specs.Combined.{IndexStands, StandsOver}
 use Rattle.forall_laws.proofs.Walking.{over-done, over-then, over-scoped}
@@ -67,11 +68,8 @@ entry_scalar e (kind.Declared f shape) h z = not_higher e.rank h.2 z
 entry_scalar e (kind.Allocatable f rank) h z = not_higher e.rank h.2 z
 entry_scalar e _ h z = absurd h
 
-none_some : {P A : Type 0} (a : A) → None ≡ Some a → P
-none_some a h = absurd (let q = h in cc)
-
 variable_scalar : (c : Bool) (names : Names) (x : Name) (e : Entry) (d : Operand) → EntryIsKnown c names x e → e.rank ≡ 0 → variable_of names.variables x ≡ Some d → IsScalarKind d.kind
-variable_scalar true names x e d h z is = none_some d (sym h.0 ∙ is)
+variable_scalar true names x e d h z is = absurd (not-given d (sym h.0 ∙ is))
 variable_scalar false names x e d h z is = subst (λ a. IsScalarKind a.kind) (same_operand h.0 d (sym h.1 ∙ is)) (entry_scalar e h.0.kind h.2 z)
 
 entry_zero : (e : Entry) (ty : Typed) → Some (entry_type e) ≡ Some ty → ty.rank ≡ 0 → e.rank ≡ 0
@@ -81,7 +79,7 @@ pub name_scalar : (s : Scope) (x : Name) (st : Option Standing) (ty : Typed) (d 
 name_scalar s x None ty d h t z i is = no_type ty t
 name_scalar s x (Some (Declared e)) ty d h t z i is = variable_scalar e.constant s.names x e d h.1 (entry_zero e ty t z) is
 name_scalar s x (Some (Active e)) ty d h t z i is = variable_scalar false s.names x e d h.2 (entry_zero e ty t z) is
-name_scalar s x (Some Index) ty d h t z i is = none_some h.0 (sym i ∙ h.1)
+name_scalar s x (Some Index) ty d h t z i is = absurd (not-given h.0 (sym i ∙ h.1))
 name_scalar s x (Some Barred) ty d h t z i is = no_type ty t
 
 plain_truth : (c : Constancy) (b : Bool) → ((z : ℤ) → c ≡ Value z → ⊥) → constant_value c b ≡ truth b
