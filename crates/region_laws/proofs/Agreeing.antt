@@ -1,5 +1,5 @@
 -- The names of a source agree with a world that they fit.
-use Rattle.std.proofs.Common.{◌≡◌, refl, sym, ap, ◌∙◌, subst, ℕ, ◌<◌, length, Option, Some, None, Ok, ℤ, pos, arith}
+use Rattle.std.proofs.Common.{◌≡◌, refl, sym, ap, ◌∙◌, subst, ℕ, ◌<◌, length, Option, Some, None, Ok, ℤ, pos}
 use Rattle.ws_base.specs.declared.name.Name.{Name}
 use Rattle.ws_base.specs.Numbers.{truth}
 use Rattle.ws_base.specs.Outcomes.{Staged}
@@ -19,7 +19,7 @@ use Rattle.value_laws.specs.Names.{DeclareStands, Agrees}
 use Rattle.world_laws.specs.Worlds.{constant_value, ConstantFits, FitsNames}
 use Rattle.world_laws.specs.Yields.{IsOfName}
 use Rattle.part_laws.specs.Joined.{HasSmallRanks}
-use Rattle.world_laws.proofs.Fitting.{state_fits, absent_state}
+use Rattle.world_laws.proofs.Fitting.{state_fits, absent_state, is_below, refers}
 
 abbrev pub IsGiven : {A : Type 0} → Option A → Type 0
 IsGiven None = ⊥
@@ -48,12 +48,10 @@ module _ (names : Names) (w : World) (fits : FitsNames names w) where
   module _ (env : Environment) (same : (k : ℕ) → k < length w.vars → env k ≡ of_variables w.vars k) where
     pub declare-held : (x : Name) (d : Operand) → variable_of names.variables x ≡ Some d → DeclareStands (length w.vars) env d (state_of w.vars x)
     declare-held x d is =
-        let h = state_fits names w x d fits is in
-        let number = h.number in
-        let here : d.value.number ≡ h.place = omega (arith, number) in record {
-          below = subst (λ k. k < length w.vars) (sym here) h.small;
+        let h = state_fits names w x d fits is in record {
+          below = is_below w.vars x d h;
           var = h.var;
-          found = same d.value.number (subst (λ k. k < length w.vars) (sym here) h.small) ∙ (ap (of_variables w.vars) here ∙ h.found);
+          found = refers w.vars x d h env same;
           holds = h.state;
           fits = h.fits;
         }

@@ -7,7 +7,7 @@ use Rattle.ws_space.specs.declared.state.Var.{Var}
 use Rattle.ws_space.specs.Values.{Name, state_of, with_state}
 use Rattle.ws_space.specs.Replace.{is_logical}
 use Rattle.hlfir_ops.specs.RulesValues.{rank_of}
-use Rattle.hlfir_meaning.specs.Environments.{variable, of_variables}
+use Rattle.hlfir_meaning.specs.Environments.{variable, Environment, of_variables}
 use Rattle.array_meaning.specs.declared.world.World.{World}
 use Rattle.array_meaning.specs.Assign.{with_vars}
 use Rattle.lower_assign.specs.declared.names.Names.{Names}
@@ -82,6 +82,14 @@ as_many n [] [] h = refl
 as_many n [] (v ∷ vs) h = absurd h
 as_many n (e ∷ ds) [] h = absurd h
 as_many n (e ∷ ds) (v ∷ vs) h = ap suc (as_many (suc n) ds vs h.2)
+
+-- in an environment that begins with the variables, it refers to this one
+module _ (vs : List Var) (x : Name) (d : Operand) (h : DeclaredAt 0 vs x d) where
+  pub is_below : d.value.number < length vs
+  is_below = omega (arith, h.number, h.small)
+
+  pub refers : (env : Environment) → ((k : ℕ) → k < length vs → env k ≡ of_variables vs k) → env d.value.number ≡ variable h.var
+  refers env same = same d.value.number is_below ∙ (ap (of_variables vs) (let e : d.value.number ≡ h.place = omega (arith, h.number) in e) ∙ h.found)
 
 -- what no declare names holds nothing
 absent_at : (b : Bool) (e : Variable) (es : List Variable) (v : Var) (vs : List Var) (x : Name) → (if b then Some e.declare else variable_of es x) ≡ None → (variable_of es x ≡ None → state_of vs x ≡ state.Scalar (pos 0)) →
