@@ -30,9 +30,9 @@ use Rattle.lower_assign.specs.Lowerings.{scoped, ◌>>=◌ as ◌then◌}
 use Rattle.lower_assign.specs.References.{variable_of, or_nothing, declare_of, boxed, reference, first_name, dimension_in, bound_word, bound_or_size, is_allocated, inquiry_of, inquiry_or_nothing, inquiry}
 use Rattle.kind_laws.specs.Standing.{Knows}
 use Rattle.kind_laws.proofs.NoFaults.{impossible}
+use Rattle.world_laws.proofs.Fitting.{DeclaredAt, state_fits, is_below, refers}
 use Rattle.forall_laws.specs.Walks.{DoesOver, IsColumn, IsReference}
 use Rattle.forall_laws.specs.Combined.{StandsOver}
-use Rattle.forall_laws.proofs.Fitting.{DeclaredAt, state_fits}
 use Rattle.forall_laws.proofs.Walking.{over-then, over-scoped}
 use Rattle.forall_laws.proofs.Columns.{each-over}
 use Rattle.forall_laws.proofs.References.{over-bound_or_size, over-is_allocated, over-boxed}
@@ -91,10 +91,10 @@ module _ (at : List ℕ) (of : ℕ → Combination) (s : Scope) (w : World) (n :
     declared = state_fits s.names w x d stands.world is
 
     low : d.value.number < n
-    low = omega (arith, declared.number, declared.small, stands.declared)
+    low = omega (arith, is_below w.vars x d declared, stands.declared)
 
     found : env d.value.number ≡ variable declared.var
-    found = ap env (let e : d.value.number ≡ declared.place = omega (arith, declared.number) in e) ∙ (stands.variables declared.place declared.small ∙ declared.found)
+    found = refers w.vars x d declared env stands.variables
 
     -- the variable of this name
     pub over-reference : (none : ⊤) → DoesOver at s n env (reference x) (Ok none) (IsReference declared.var)

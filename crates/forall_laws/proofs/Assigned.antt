@@ -26,8 +26,8 @@ use Rattle.lower_assign.specs.declared.names.Names.{Names}
 use Rattle.value_laws.specs.Variables.{Fits}
 use Rattle.world_laws.specs.Worlds.{FitsNames}
 use Rattle.world_laws.specs.Meanings.{LeavesWorld}
-use Rattle.forall_laws.proofs.Fitting.{state_fits, takes_state, FitsWhereDeclared}
-use Rattle.forall_laws.proofs.Kept.{kept-fits}
+use Rattle.world_laws.proofs.Fitting.{state_fits, takes_state, FitsWhereDeclared}
+use Rattle.world_laws.proofs.Filling.{filled_fits}
 use Rattle.forall_laws.proofs.Yields.{YieldsOver}
 
 -- what is yielded has these values
@@ -54,7 +54,7 @@ module _ (names : Names) (w : World) (fits : FitsNames names w) (left : Expr) (l
 
   array_state : (a : ArrayValue) (ts : List ℕ) (xs : List ℤ) (o : Option ℕ) → state_of w.vars x ≡ state.Array a → LeavesWorld names (put (unless_repeated line at o (filled a ts xs))) (put_source (unless_repeated line at o (filled a ts xs)))
   array_state a ts xs None is = new_state (filled a ts xs)
-      (λ d known. let at_d = state_fits names w x d fits known in kept-fits d.kind a (stored a.values ts xs) at_d.narrow (subst (Fits d.kind) is at_d.fits))
+      (λ d known. let at_d = state_fits names w x d fits known in filled_fits d.kind (state.Array a) a (stored a.values ts xs) at_d.narrow (subst (Fits d.kind) is at_d.fits) refl)
   array_state a ts xs (Some k) is = refl
 
   same_state : (s : VarState) → state_of w.vars x ≡ s → LeavesWorld names (put (Ok s)) (put_source (Ok s))

@@ -19,8 +19,8 @@ use Rattle.hlfir_meaning.specs.Combinations.{stepping, after, greater, last_part
 use Rattle.lower_assign.specs.declared.operand.Operand.{Operand}
 use Rattle.value_laws.specs.Standing.{Kept, Goes}
 use Rattle.world_laws.specs.Yields.{scalars_of}
+use Rattle.world_laws.proofs.Listing.{stride_of, triple_exprs}
 use Rattle.forall_laws.proofs.LastOps.{IsLast}
-use Rattle.forall_laws.proofs.Listing.{stride_of, triple_exprs}
 use Rattle.forall_laws.proofs.Pieces.{StartsUpTo, starts-below, starts-append, starts-last, up_to-piece, after-piece, greater-right, greater-below}
 
 -- ---- the three values of an index, in order

@@ -1,9 +1,8 @@
 -- The body of a FORALL: its mask, and its assignments one after another.
-use Rattle.std.proofs.Common.{◌≡◌, refl, sym, ap, subst, ℕ, ◌+◌, ◌≤◌, false, List, [], ◌∷◌, map, None, Result, Ok, Err, if◌then◌else◌, arith}
+use Rattle.std.proofs.Common.{◌≡◌, refl, sym, ap, subst, ℕ, ◌+◌, ◌≤◌, false, List, [], ◌∷◌, map, None, Result, Ok, if◌then◌else◌, arith}
 use mathlib.Core.Former.{Count}
 use Rattle.ws_base.specs.declared.fault.Fault.{Fault}
 use Rattle.ws_base.specs.declared.refusal.RefusalKind.TheVariants as kind
-use Rattle.ws_base.specs.Outcomes.{◌>>=◌}
 use Rattle.ws_space.specs.declared.state.Var.{Var}
 use Rattle.ws_tree.specs.declared.expr.Expr.{Expr}
 use Rattle.ws_tree.specs.declared.stmt.Body.TheVariants.{Assign, Masked', Forall', Loop', Allocate, Deallocate, Read, Shared', Unsupported, TooDeep}
@@ -29,16 +28,8 @@ use Rattle.kind_laws.proofs.NoFaults.{none_first, none_after, impossible}
 use Rattle.value_laws.proofs.Ops.{parts-op_of}
 use Rattle.world_laws.specs.Worlds.{FitsNames}
 use Rattle.world_laws.specs.Meanings.{LeavesWorld}
+use Rattle.world_laws.proofs.Leaving.{leaves_then}
 use Rattle.forall_laws.proofs.Body.{BodyStands, assign_op, assign-part}
-
-leaves_then : (names : _) (r : Result (List Var) Fault) (q : Result World Fault) (f : List Var → Result (List Var) Fault) (g : World → Result World Fault) → LeavesWorld names r q →
-    ((w : World) → FitsNames names w → LeavesWorld names (f w.vars) (g w)) → LeavesWorld names (r >>= f) (q >>= g)
-leaves_then names r (Ok w) f g h k = subst (λ p. LeavesWorld names (p >>= f) (g w)) (sym h.0) (k w h.1)
-leaves_then names r (Err e) f g h k = ap (λ p. p >>= f) h
-
-pub leaves_after : {A : Type 0} (names : _) (p : Result A Fault) (f : A → Result (List Var) Fault) (g : A → Result World Fault) → ((a : A) → LeavesWorld names (f a) (g a)) → LeavesWorld names (p >>= f) (p >>= g)
-leaves_after names (Ok a) f g h = h a
-leaves_after names (Err e) f g h = refl
 
 module _ (t : List Row) (s : Scope) (h : Header) (n : ℕ) (of : ℕ → Combination) (body : BodyStands t s h n of) where
   abbrev pub does : List ℕ → ℕ → Op → List Var → Result (List Var) Fault

@@ -24,11 +24,12 @@ use Rattle.lower_assign.specs.Values.{value}
 use Rattle.lower_assign.specs.Statements.{yielded, left, assignment, is_whole_allocatable}
 use Rattle.kind_laws.specs.Standing.{Knows}
 use Rattle.kind_laws.proofs.ScopesKnown.{inside_known}
+use Rattle.kind_laws.proofs.Ends.{ops_in-second}
 use Rattle.value_laws.proofs.Ops.{parts-op_of, ops_in-first}
 use Rattle.world_laws.specs.Worlds.{FitsNames}
 use Rattle.world_laws.specs.Meanings.{LeavesWorld}
 use Rattle.forall_laws.specs.Combined.{StandsOver}
-use Rattle.forall_laws.proofs.Yields.{YieldsOver, ops_in-second}
+use Rattle.forall_laws.proofs.Yields.{YieldsOver}
 use Rattle.forall_laws.proofs.Assigned.{IsValue, IsTarget, assigned_same}
 use Rattle.forall_laws.proofs.Sides.{stands-inside, stands-higher, sides_scalar, value-yielded, left-yielded}
 

@@ -1,11 +1,10 @@
 -- A whole FORALL leaves the variables that its source leaves.
 use Rattle.std.specs.Prelude.{⊤}
-use Rattle.std.proofs.Common.{◌≡◌, refl, sym, ap, ◌∙◌, subst, ℕ, zero, suc, ◌+◌, List, [], ◌∷◌, length, map, Option, None, Result, Ok, Err, pos, arith, All}
+use Rattle.std.proofs.Common.{◌≡◌, refl, sym, ap, ◌∙◌, subst, ℕ, ◌+◌, List, [], ◌∷◌, length, map, Option, None, Result, Ok, Err, pos, arith, All}
 use Rattle.std.proofs.lemmas.List.{length-map}
 use mathlib.Core.Former.{Count}
 use Rattle.ws_base.specs.declared.fault.Fault.{Fault}
 use Rattle.ws_base.specs.declared.name.Name.{Name}
-use Rattle.ws_base.specs.declared.refusal.RefusalKind.TheVariants as kind
 use Rattle.ws_base.specs.Outcomes.{Staged, ◌>>=◌}
 use Rattle.ws_space.specs.declared.shape.Triplet.{Triplet}
 use Rattle.ws_space.specs.declared.state.Var.{Var}
@@ -14,15 +13,15 @@ use Rattle.ws_space.specs.Combinations.{lengths, indexes_at}
 use Rattle.ws_space.specs.Faults.{at_lines}
 use Rattle.ws_tree.specs.declared.expr.Expr.{Expr}
 use Rattle.ws_tree.specs.declared.stmt.Index.{Index}
-use Rattle.ws_tree.specs.declared.stmt.Body.TheVariants.{Assign, Forall'}
-use Rattle.ws_tree.specs.Trees.{Stmts, end_stmts, more_stmts}
+use Rattle.ws_tree.specs.declared.stmt.Body.TheVariants.{Forall'}
+use Rattle.ws_tree.specs.Trees.{Stmts}
 use Rattle.ws_tree.specs.Grammatical.{IsHeader, IsOneAssignment, IsBody, AreStmts}
 use Rattle.ws_tree.specs.Grammatical as grammar
 use Rattle.ws_tree.specs.Grammatical.Within.{anywhere, in_where, in_forall}
 use Rattle.ws_types.specs.declared.types.Row.{Row}
 use Rattle.ws_types.specs.Tables.{barred, inner}
 use Rattle.ws_sema.specs.declared.within.Within.TheVariants as within
-use Rattle.ws_sema.specs.Statements.{is_masked, header_faults, forall_mask_faults, block_faults}
+use Rattle.ws_sema.specs.Statements.{header_faults, forall_mask_faults, block_faults}
 use Rattle.array_meaning.specs.declared.world.World.{World}
 use Rattle.array_meaning.specs.Forall as source
 use Rattle.array_meaning.specs.Forall.{Combination, combination}
@@ -44,47 +43,24 @@ use Rattle.lower_assign.specs.Statements.{all_yielded}
 use Rattle.lower_constructs.specs.Modules.{statement, statements, triples, forall_mask}
 use Rattle.kind_laws.specs.Standing.{Knows}
 use Rattle.kind_laws.specs.Laws.{index_names}
-use Rattle.kind_laws.proofs.NoFaults.{none_first, none_after, looked_into}
 use Rattle.kind_laws.proofs.ScopesKnown.{header_known, forall_known}
+use Rattle.kind_laws.proofs.Grammar.{StandsIn, forall_parts}
+use Rattle.kind_laws.proofs.Faultless.{forall_faultless}
+use Rattle.kind_laws.proofs.Ends.{ops_in-second}
 use Rattle.value_laws.proofs.Ops.{parts-op_of, ops_in-first}
 use Rattle.world_laws.specs.Worlds.{FitsNames}
 use Rattle.world_laws.specs.Yields.{region}
 use Rattle.world_laws.specs.Meanings.{StandsOutside, LeavesWorld, SimpleMeans, ListsMean}
+use Rattle.world_laws.proofs.Fitting.{as_many}
+use Rattle.world_laws.proofs.Leaving.{leaves_after}
 use Rattle.forall_laws.specs.Combined.{StandsOver}
 use Rattle.forall_laws.specs.Headers.{HeadersMean}
 use Rattle.forall_laws.specs.Owned.{SubscriptsAreOwn}
-use Rattle.forall_laws.proofs.Fitting.{as_many}
-use Rattle.forall_laws.proofs.Yields.{ops_in-second}
 use Rattle.forall_laws.proofs.Headers.{headers_mean}
 use Rattle.forall_laws.proofs.Lengths.{AreMany, header-many}
 use Rattle.forall_laws.proofs.Indexes.{indexes-below, index-stands, from_first, no_constant}
 use Rattle.forall_laws.proofs.Body.{region_ops, BodyStands}
-use Rattle.forall_laws.proofs.Blocks.{leaves_after}
 use Rattle.forall_laws.proofs.Masked.{BodyMeans, body-means}
-
--- ---- what the grammar says of a FORALL
-
-pub record StandsIn {m : Count} (block : Stmts m) : Type 0 where
-  pub place : grammar.Within
-  pub room : ℕ
-  pub stands : AreStmts place room block
-
-one_assignment : {m : Count} (line : ℕ) (block : Stmts m) → IsOneAssignment line block → AreStmts anywhere 0 block
-one_assignment line end_stmts h = absurd h
-one_assignment line (more_stmts l (Assign left right) end_stmts) h = ((h.1, h.2), tt)
-one_assignment line (more_stmts l (Assign left right) (more_stmts n b rest)) h = absurd h
-one_assignment line (more_stmts l _ rest) h = absurd h
-
-alone : {m : Count} (line : ℕ) (block : Stmts m) → IsOneAssignment line block → StandsIn block
-alone line block h = record { place = anywhere; room = 0; stands = one_assignment line block h }
-
-forall_parts : (k : grammar.Within) (room line : ℕ) (is : List Index) (mask : Option Expr) (c : _) (block : _) → IsBody k room line (Forall' is mask c block) → IsHeader is mask × StandsIn block
-forall_parts anywhere zero line is mask c block h = (h.0, alone line block h.1)
-forall_parts anywhere (suc room) line is mask c block h = (h.0, record { place = in_forall; room = room; stands = h.1 })
-forall_parts in_where zero line is mask c block h = absurd h
-forall_parts in_where (suc room) line is mask c block h = absurd h
-forall_parts in_forall zero line is mask c block h = (h.0, alone line block h.1)
-forall_parts in_forall (suc room) line is mask c block h = (h.0, record { place = in_forall; room = room; stands = h.1 })
 
 -- ---- a run, by the ops of its two regions
 
@@ -234,14 +210,12 @@ statement_ops line is mask c block s n = refl
 pub forall_means : HeadersMean → (is : List Index) (mask : Option Expr) (c : _) (block : _) → SimpleMeans (Forall' is mask c block)
 forall_means headers is mask c block t within line s n w place room outside plain free stands f =
     let parts = forall_parts place room line is mask c block stands in
-    let inner_faults = looked_into (is_masked within) line kind.Unsupported _ f in
-    let head = none_first _ _ inner_faults in
-    let faultless = none_first _ _ head in
+    let good = forall_faultless t within line is mask c block f in
     record {
       op = op t line is mask block s n w outside;
       alone = statement_ops line is mask c block s n;
       same = subst (λ q. LeavesWorld s.names q (program.simple w line (Forall' is mask c block))) (sym (ran t line is mask block s n w outside))
-          (leaves t line is mask block s n w outside faultless (none_after _ _ head) (none_after _ _ inner_faults) parts.0 parts.1 (header_place t line is mask block s n w outside faultless headers parts.0.1));
+          (leaves t line is mask block s n w outside good.in_triplets good.in_mask good.in_block parts.0 parts.1 (header_place t line is mask block s n w outside good.in_triplets headers parts.0.1));
     }
 
 -- given lists of scalars

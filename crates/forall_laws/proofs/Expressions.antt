@@ -1,6 +1,6 @@
 -- Inside a FORALL an expression of rank 0 is lowered to ops that give its values at the combinations, or its fault.
 use Rattle.std.specs.Prelude.{⊤}
-use Rattle.std.proofs.Common.{◌≡◌, refl, sym, ap, ◌∙◌, subst, ℕ, suc, ◌+◌, ◌==◌, true, false, List, [], ◌∷◌, ◌++◌, length, map, Some, None, Ok, ℤ, pos, arith, if◌then◌else◌, append-nil, append_assoc}
+use Rattle.std.proofs.Common.{◌≡◌, refl, sym, ap, ◌∙◌, subst, ℕ, suc, ◌+◌, ◌≤◌, ◌==◌, true, false, List, [], ◌∷◌, ◌++◌, length, map, Some, None, Ok, ℤ, pos, arith, if◌then◌else◌, append-nil, append_assoc}
 use mathlib.Core.Former.{Count}
 use Rattle.ws_base.specs.Numbers.{truth}
 use Rattle.ws_base.specs.declared.name.Name.{Name}
@@ -46,9 +46,9 @@ use Rattle.kind_laws.proofs.TypedExpressions.{type_known}
 use Rattle.kind_laws.proofs.FormsMade.{AreTyped}
 use Rattle.value_laws.specs.Standing.{Kept}
 use Rattle.value_laws.proofs.Columns.{IsNesting, totals, each-totals, call_map-last}
+use Rattle.world_laws.proofs.Fitting.{state_fits}
 use Rattle.forall_laws.specs.Walks.{DoesOver, IsColumn, AreColumns, IsReference, AreSubscripts, ArePlaces}
 use Rattle.forall_laws.specs.Combined.{StandsOver}
-use Rattle.forall_laws.proofs.Fitting.{state_fits}
 use Rattle.forall_laws.proofs.Walking.{over-done, over-then}
 use Rattle.forall_laws.proofs.Columns.{rows-over, same-over, elements-placed}
 use Rattle.forall_laws.proofs.Given.{column-later, stands-later, over-constant}
@@ -71,6 +71,10 @@ module _ (t : List Row) (line : ℕ) (s : Scope) (k : Knows t s) (at : List ℕ)
 
   abbrev later : (n m : ℕ) (env middle : Environment) (ops : ℕ) → m ≡ n + ops → Kept n env middle → StandsOver at of s w n env → StandsOver at of s w m middle
   later n m env middle ops h kept = stands-later at of s w n m env middle (omega (arith, h)) kept
+
+  -- the numbers of later ops are higher ones
+  reached : (m j ops : ℕ) → j ≡ m + ops → m ≤ j
+  reached m j ops h = omega (arith, h)
 
   -- the places of an element
   abbrev pub places : {m : Count} → Name → Subs m → Staged (List ℕ)
@@ -214,7 +218,7 @@ module _ (t : List Row) (line : ℕ) (s : Scope) (k : Knows t s) (at : List ℕ)
         (λ ys j after at_j held hy.
         let y = (value b s m).made in
         subst (λ r. DoesOver at s j after (binary_operation (binary_of op) x y) r IsColumn) (ap (each (pair_value op)) (sym (rows-over of at (xs ∷ ys ∷ []))))
-        (over-operator at s j after op x y xs ys (column-later x xs m j middle after (omega (arith, at_j)) held hx) hy))))
+        (over-operator at s j after op x y xs ys (column-later x xs m j middle after (reached m j _ at_j) held hx) hy))))
 
     pub over-values : {m : Count} (es : Exprs m) (tys : List Typed) → AreExprs es → all_faults t true line es ≡ [] → AreTyped t true es tys → AllScalar tys →
         (n : ℕ) (env : Environment) → StandsOver at of s w n env → DoesOver at s n env (values es) (source.over_all w es combined) AreColumns
@@ -227,7 +231,7 @@ module _ (t : List Row) (line : ℕ) (s : Scope) (k : Knows t s) (at : List ℕ)
         let x = (value e s n).made in
         over-then at s m middle (values es) (λ xs. done (x ∷ xs)) (source.over_all w es combined) (λ cs. Ok (c ∷ cs)) AreColumns AreColumns
         (over-values es tys g.1 (none_after _ _ f) h.1 z.1 m middle (later n m env middle _ at_m kept stands))
-        (λ cs j after at_j held are. over-done at s j after (x ∷ (values es s m).made) (c ∷ cs) AreColumns (column-later x c m j middle after (omega (arith, at_j)) held hx, are)))
+        (λ cs j after at_j held are. over-done at s j after (x ∷ (values es s m).made) (c ∷ cs) AreColumns (column-later x c m j middle after (reached m j _ at_j) held hx, are)))
 
     over-nested : (op : ValueBinary) (word : CallWord) (f : ℤ → ℤ → ℤ) (total : ℤ → List ℤ → ℤ) (is : IsNesting op word f total) {m : Count} (es : Exprs m) (tys : List Typed) (x : Operand) (xs c : List ℤ) (pre : List (List ℤ)) →
         AreExprs es → all_faults t true line es ≡ [] → AreTyped t true es tys → AllScalar tys → SoFar op word f total is xs c pre → AreAllUnless es (Ok xs ≡ call_map word at (c ∷ pre)) →
@@ -246,7 +250,7 @@ module _ (t : List Row) (line : ℕ) (s : Scope) (k : Knows t s) (at : List ℕ)
         subst (λ r. DoesOver at s m middle (joined op (Some x) y then (λ v. nested op (Some v) es)) r IsColumn)
         (bind-same (source.over_all w es combined) (λ rest. call_map word at (c ∷ (more ++ rest))) (λ rest. call_map word at (c ∷ (pre ++ (ys ∷ rest)))) (λ rest. ap (λ q. call_map word at (c ∷ q)) (append_assoc pre (ys ∷ []) rest)))
         (over-then at s m middle (binary_operation op x y) (λ v. nested op (Some v) es) (Ok only) (λ _. source.over_all w es combined >>= (λ rest. call_map word at (c ∷ (more ++ rest)))) (λ v o j after. IsColumn v (total_of op word f total is c more) j after) IsColumn
-        (joins op word f total is m middle x y xs ys c pre (column-later x xs n m env middle (omega (arith, at_m)) kept hx) hy so_far)
+        (joins op word f total is m middle x y xs ys c pre (column-later x xs n m env middle (reached n m _ at_m) kept hx) hy so_far)
         (λ o j after at_j held hv.
         over-nested op word f total is es tys (binary_operation op x y s m).made (total_of op word f total is c more) c more g.1 (none_after _ _ u) h.1 z.1 (so_far-more op word f total is c more)
         (all_unless es (Ok (total_of op word f total is c more) ≡ call_map word at (c ∷ more)) (total_all op word f total is c more)) j after (later m j middle after _ at_j held (later n m env middle _ at_m kept stands)) hv))))
@@ -288,6 +292,6 @@ module _ (t : List Row) (line : ℕ) (s : Scope) (k : Knows t s) (at : List ℕ)
         over-then at s m middle (subscripts r (suc dim) ss) (λ xs. done (x ∷ xs)) (source.over_subs w ss combined) (λ vs. Ok (v ∷ vs)) AreSubscripts AreSubscripts
         (over-subscripts r (suc dim) (with_subscript c (typed t true e)) ss g.1 (none_after _ _ f) h m middle (later n m env middle _ at_m kept stands))
         (λ vs j after at_j held are. over-done at s j after (x ∷ (subscripts r (suc dim) ss s m).made) (v ∷ vs) AreSubscripts
-        (AreSubscripts-more x (subscripts r (suc dim) ss s m).made v vs m j middle after (omega (arith, at_j)) held hx are)))
+        (AreSubscripts-more x (subscripts r (suc dim) ss s m).made v vs m j middle after (reached m j _ at_j) held hx are)))
     over-subscripts r dim c (more_subs (sub.Range' l u st) ss) g f h n env stands =
         let next : c.rank + 1 ≡ 0 = subscripts_scalar t line (types.with_sub t true c (sub.Range' l u st)) ss (none_after _ _ f) h in one_more c.rank next

@@ -1,7 +1,6 @@
 -- The lowered header of a FORALL means what its source means, given lists of scalars.
-use Rattle.std.proofs.Common.{◌≡◌, refl, sym, ap, ◌∙◌, subst, ℕ, ◌+◌, ◌-◌, ◌<◌, ◌≤◌, false, List, [], ◌∷◌, ◌++◌, length, map, All, Option, Some, None, Ok, arith, append-nil, append_assoc, slice_get, if◌then◌else◌}
+use Rattle.std.proofs.Common.{◌≡◌, refl, sym, ap, ◌∙◌, subst, ℕ, ◌+◌, ◌<◌, ◌≤◌, false, List, [], ◌∷◌, ◌++◌, length, map, All, Option, Some, None, Ok, arith, append-nil, append_assoc, if◌then◌else◌}
 use Rattle.std.specs.Prelude.{◌||◌}
-use Rattle.std.proofs.lemmas.List.{length-append}
 use Rattle.std.proofs.lemmas.List.Elements.{All-nil, All-cons, All-head, All-tail}
 use Rattle.ws_base.specs.Outcomes.{Staged, ◌>>=◌}
 use Rattle.ws_space.specs.declared.shape.Triplet.{Triplet}
@@ -24,35 +23,35 @@ use Rattle.array_meaning.specs.Forall as source
 use Rattle.hlfir_ops.specs.declared.what.What.TheVariants as what
 use Rattle.hlfir_ops.specs.declared.op.ValueId.{ValueId}
 use Rattle.hlfir_ops.specs.declared.op.Op.{Op}
-use Rattle.hlfir_ops.specs.Trees.{op_of}
 use Rattle.hlfir_ops.specs.Numbers.{numbers_of}
-use Rattle.hlfir_ops.specs.RulesRegions.{parts, parts_of, last_of, is_yield, is_yield_element}
+use Rattle.hlfir_ops.specs.RulesRegions.{parts, parts_of, is_yield, is_yield_element}
 use Rattle.hlfir_meaning.specs.Environments.{scalar, Environment, of_variables, yielding}
 use Rattle.hlfir_meaning.specs.Stage1.{stage1, subscripts_in, subscript_numbers}
 use Rattle.hlfir_meaning.specs.Stage1 as walked
 use Rattle.hlfir_meaning.specs.Combinations.{axes, header}
 use Rattle.lower_assign.specs.declared.operand.Operand.{Operand}
 use Rattle.lower_assign.specs.Scopes.{Scope}
-use Rattle.lower_assign.specs.Lowerings.{Lowered, Lowering, done, ◌>>=◌ as ◌then◌, acting}
+use Rattle.lower_assign.specs.Lowerings.{Lowered, done, ◌>>=◌ as ◌then◌}
 use Rattle.lower_assign.specs.Values.{value}
 use Rattle.lower_assign.specs.Lists.{values}
-use Rattle.lower_assign.specs.Statements.{all_yielded}
 use Rattle.lower_constructs.specs.Modules.{triple, triples}
 use Rattle.kind_laws.proofs.NoFaults.{none_first, none_after, not_broken}
 use Rattle.kind_laws.proofs.TypedExpressions.{type_known}
 use Rattle.kind_laws.proofs.Sides.{sides_are_expressions}
+use Rattle.kind_laws.proofs.Ends.{last_of-push}
 use Rattle.value_laws.specs.Standing.{Kept, Goes}
 use Rattle.value_laws.proofs.Ops.{ending, parts-op_of}
 use Rattle.world_laws.specs.Yields.{region, scalars_of}
 use Rattle.world_laws.specs.Meanings.{StandsOutside, IsIntegerScalar, AreVectorsOf, ListsMean}
+use Rattle.world_laws.proofs.Listing.{stride_of, triple_exprs, three, triple-list, numbers}
+use Rattle.world_laws.proofs.Yielding.{yield_of, yielded_ops, yield_subscripts}
 use Rattle.forall_laws.specs.Headers.{HeadersMean}
 use Rattle.forall_laws.specs.Owned.{OwnIn, SubscriptsAreOwn}
 use Rattle.forall_laws.proofs.Axes.{piece-starts, piece-low, axes-piece, axes-walked, stepping-three}
 use Rattle.forall_laws.proofs.LastOps.{EndsAt}
 use Rattle.forall_laws.proofs.LastValues.{ends-value}
-use Rattle.forall_laws.proofs.Listing.{stride_of, triple_exprs, three, triple-list}
 use Rattle.forall_laws.proofs.Sides.{zero_rank}
-use Rattle.forall_laws.proofs.Vectors.{subscripts-append, own-append, vectors-first, vectors-after}
+use Rattle.forall_laws.proofs.Vectors.{own-append, vectors-first, vectors-after}
 
 -- ---- the expressions of an index
 
@@ -147,9 +146,6 @@ module _ (lists : ListsMean) (owned : SubscriptsAreOwn) (b : List Row) (line : �
       abbrev three_values : Lowered (List Operand)
       three_values = record { ops = xs; made = first.made ∷ second.made ∷ third.made ∷ [] }
 
-      abbrev numbered : Lowered (List Operand) → Lowered (List ValueId)
-      numbered a = record { ops = a.ops; made = map (λ x. x.value) a.made }
-
       values-are : values (triple_exprs i.l i.u i.s) s m ≡ three_values
       values-are = three i.l i.u (stride_of i.s) s m
 
@@ -158,7 +154,7 @@ module _ (lists : ListsMean) (owned : SubscriptsAreOwn) (b : List Row) (line : �
 
       triples-are : triples (i ∷ is) s m ≡ whole
       triples-are = triples-cons i is s m
-          ∙ ap (λ a. let c = triples is s (m + numbers_of a.ops) in let r : Lowered (List ValueId) = record { ops = a.ops ++ c.ops; made = a.made ++ c.made } in r) (triple-list i.l i.u i.s s m ∙ ap numbered values-are)
+          ∙ ap (λ a. let c = triples is s (m + numbers_of a.ops) in let r : Lowered (List ValueId) = record { ops = a.ops ++ c.ops; made = a.made ++ c.made } in r) (triple-list i.l i.u i.s s m ∙ ap numbers values-are)
 
       own_first : OwnIn base m xs
       own_first = subst (λ a. OwnIn base m a.ops) values-are (owned b line (triple_exprs i.l i.u i.s) s m w stands (all_three b line i h))
@@ -212,31 +208,12 @@ module _ (lists : ListsMean) (owned : SubscriptsAreOwn) (b : List Row) (line : �
 
 -- ---- the whole region
 
-at_end : {A : Type 0} (xs : List A) (x : A) → slice_get (xs ++ x ∷ []) (length xs) ≡ Some x
-at_end [] x = refl
-at_end (y ∷ xs) x = at_end xs x
-
-last_push : (before : List Op) (op : Op) → last_of (before ++ op ∷ []) ≡ Some op
-last_push before op =
-    let many = length-append before (op ∷ []) in
-    let place : length (before ++ op ∷ []) - 1 ≡ length before = omega (arith, many) in ap (slice_get (before ++ op ∷ [])) place ∙ at_end before op
-
 module _ (s : Scope) (vs : List ValueId) where
-  abbrev yield : Op
-  yield = op_of what.Yield s.line vs None []
+  yield_parts : (ops : List Op) → parts (ops ++ yield_of s vs ∷ []) ≡ vs
+  yield_parts ops = ap parts_of (last_of-push ops (yield_of s vs)) ∙ ap (λ f. if is_yield f.what || is_yield_element f.what then f.operands else []) (parts-op_of what.Yield s.line vs None [])
 
-  yield_parts : (ops : List Op) → parts (ops ++ yield ∷ []) ≡ vs
-  yield_parts ops = ap parts_of (last_push ops yield) ∙ ap (λ f. if is_yield f.what || is_yield_element f.what then f.operands else []) (parts-op_of what.Yield s.line vs None [])
-
-  yield_subscripts : (ops : List Op) → subscript_numbers (ops ++ yield ∷ []) ≡ subscript_numbers ops
-  yield_subscripts ops = subscripts-append ops (yield ∷ []) ∙ (ap (λ ns. subscript_numbers ops ++ ns) (ap (λ f. subscripts_in f.what f.operands ++ []) (parts-op_of what.Yield s.line vs None [])) ∙ append-nil (subscript_numbers ops))
-
-  yield_ends : (vectors : List ℕ) (k : ℕ) (rho : Environment) → stage1 vectors k rho (yield ∷ []) ≡ Ok (yielding rho vs)
+  yield_ends : (vectors : List ℕ) (k : ℕ) (rho : Environment) → stage1 vectors k rho (yield_of s vs ∷ []) ≡ Ok (yielding rho vs)
   yield_ends vectors k rho = ending what.Yield s.line vs None [] (walked.once vectors) k rho [] refl
-
-yielded_ops : (p : Lowering (List ValueId)) (s : Scope) (n : ℕ) → (all_yielded p s n).ops ≡ (p s n).ops ++ yield s (p s n).made ∷ []
-unfolding ◌then◌ acting
-yielded_ops p s n = refl
 
 abbrev limit : Staged (List Triplet) → Staged (List Triplet)
 limit r = r >>= (λ ts. limited (lengths ts) ts)
@@ -244,9 +221,9 @@ limit r = r >>= (λ ts. limited (lengths ts) ts)
 pub headers_mean : ListsMean → SubscriptsAreOwn → HeadersMean
 headers_mean lists owned t b line is s n w stands each f =
     let a = triples is s n in
-    let ops = a.ops ++ yield s a.made ∷ [] in
+    let ops = a.ops ++ yield_of s a.made ∷ [] in
     let env = of_variables w.vars in
     ap (λ l. header env (region n l)) (yielded_ops (triples is) s n)
     ∙ (ap (λ ps. limit (axes (subscript_numbers ops) n env ps ops)) (yield_parts s a.made a.ops)
-    ∙ ap limit (axes_mean lists owned b line s w (subscript_numbers ops) (yield s a.made) a.made (yield_ends s a.made (subscript_numbers ops)) is n env stands (λ k low. refl) (scalars_each t b line [] is each f)
+    ∙ ap limit (axes_mean lists owned b line s w (subscript_numbers ops) (yield_of s a.made) a.made (yield_ends s a.made (subscript_numbers ops)) is n env stands (λ k low. refl) (scalars_each t b line [] is each f)
     (λ v low high. ap (is_among v) (yield_subscripts s a.made a.ops))))

@@ -151,9 +151,8 @@ module _ (at : List ℕ) (ts : List Triplet) where
           (bytes_eq i.name x ≡ false → IndexStands at (λ p. by_name is (rest_of (vals p))) names (with_indexes (suc n) (suc k) (index_names is) ts at next) (suc n + length is) x (index_of (with_names (suc n) is more) x)) →
           IndexStands at (λ p. by_name (i ∷ is) (vals p)) names (with_indexes (suc n) (suc k) (index_names is) ts at next) (n + length (i ∷ is)) x (index_of (with_names (suc n) is more) x)
       by_name_here true same later =
-          let no_more = apart t b line (before ++ i ∷ []) is x (none_after _ _ f) (listed_last before i x same) in
           subst (IndexStands at (λ p. by_name (i ∷ is) (vals p)) names (with_indexes (suc n) (suc k) (index_names is) ts at next) (n + length (i ∷ is)) x)
-          (sym (not_indexed (suc n) is more x no_more ∙ ap (λ d. if d then Some (record { number = n }) else index_of outer x) same))
+          (sym (not_indexed (suc n) is more x (apart t b line (before ++ i ∷ []) is x (none_after _ _ f) (listed_last before i x same)) ∙ ap (λ d. if d then Some (record { number = n }) else index_of outer x) same))
           (record {
             values = λ p. value_at (indexes_at ts p) k;
             low = omega arith;

@@ -23,9 +23,9 @@ use Rattle.kind_laws.specs.Standing.{Knows}
 use Rattle.kind_laws.proofs.NoFaults.{none_first, none_after}
 use Rattle.kind_laws.proofs.TypeFacts.{part_result}
 use Rattle.kind_laws.proofs.TypesKnown.{name_known}
+use Rattle.world_laws.proofs.Fitting.{state_fits}
 use Rattle.forall_laws.specs.Walks.{DoesOver, ArePlaces}
 use Rattle.forall_laws.specs.Combined.{StandsOver}
-use Rattle.forall_laws.proofs.Fitting.{state_fits}
 use Rattle.forall_laws.proofs.Ranks.{IsVariable}
 use Rattle.forall_laws.proofs.Forms.{bind-same}
 use Rattle.forall_laws.proofs.Columns.{rows-over, places-same}

@@ -1,4 +1,3 @@
-pub mod Fitting
 pub mod Walking
 pub mod Columns
 pub mod Given
@@ -12,7 +11,6 @@ pub mod Forms
 pub mod Expressions
 pub mod Indexes
 pub mod Yields
-pub mod Kept
 pub mod Assigned
 pub mod Lefts
 pub mod Sides
@@ -22,7 +20,6 @@ pub mod Masked
 pub mod Lengths
 pub mod Construct
 pub mod LastOps
-pub mod Listing
 pub mod LastValues
 pub mod Pieces
 pub mod Axes

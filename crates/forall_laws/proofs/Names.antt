@@ -1,6 +1,6 @@
 -- Names over combinations: an index name, a constant or a scalar variable; and constant expressions as one constant.
 use Rattle.std.specs.Prelude.{⊤}
-use Rattle.std.proofs.Common.{◌≡◌, refl, sym, ap, ◌∙◌, subst, ℕ, ◌<◌, Bool, true, false, List, [], ◌∷◌, map, Option, Some, None, Ok, ℤ, pos, arith, if◌then◌else◌, bytes_eq}
+use Rattle.std.proofs.Common.{◌≡◌, refl, sym, ap, ◌∙◌, subst, ℕ, ◌<◌, Bool, true, false, List, [], ◌∷◌, map, Option, Some, None, Ok, ℤ, pos, arith, if◌then◌else◌}
 use Rattle.ws_base.specs.declared.name.Name.{Name}
 use Rattle.ws_base.specs.Numbers.{truth}
 use Rattle.ws_base.specs.Outcomes.{Staged}
@@ -32,40 +32,26 @@ use Rattle.hlfir_meaning.specs.Environments.{Value as Worth, variable, column, E
 use Rattle.hlfir_meaning.specs.Places.{loaded_at}
 use Rattle.hlfir_meaning.specs.References.{held_scalar}
 use Rattle.lower_assign.specs.declared.names.Names.{Names}
-use Rattle.lower_assign.specs.declared.names.Variable.{Variable}
 use Rattle.lower_assign.specs.declared.operand.Operand.{Operand}
 use Rattle.lower_assign.specs.Scopes.{Scope, index_of}
 use Rattle.lower_assign.specs.Lowerings.{Lowering, done, ◌>>=◌ as ◌then◌}
 use Rattle.lower_assign.specs.Operations.{constant}
 use Rattle.lower_assign.specs.References.{variable_of, truth_of, boxed, loaded, variable_or_truth, index_or_other, named}
 use Rattle.lower_assign.specs.Values.{constant_or, folded}
+use Rattle.kind_laws.proofs.FormsFound.{same_operand}
 use Rattle.value_laws.specs.Variables.{Fits}
 use Rattle.value_laws.specs.Names.{IfValue}
 use Rattle.kind_laws.specs.Standing.{FitsEntry, EntryIsKnown, NameIsKnown}
 use Rattle.kind_laws.proofs.TypeFacts.{no_type, same_type}
-use Rattle.world_laws.specs.Worlds.{constant_value, FitsDeclare, FitDeclares, ConstantFits}
+use Rattle.world_laws.specs.Worlds.{constant_value, ConstantFits}
+use Rattle.world_laws.proofs.Fitting.{state_fits, absent_state}
+use Rattle.region_laws.proofs.Agreeing.{not-given}
 use Rattle.forall_laws.specs.Walks.{DoesOver, IsColumn}
 use Rattle.forall_laws.specs.Combined.{IndexStands, StandsOver}
-use Rattle.forall_laws.proofs.Fitting.{state_fits}
 use Rattle.forall_laws.proofs.Walking.{over-done, over-then, over-scoped}
 use Rattle.forall_laws.proofs.Columns.{map-over, map-same, same-over, index-value, constant-value, variable-value}
 use Rattle.forall_laws.proofs.Constants.{NamesAreSame, constant-same}
 use Rattle.forall_laws.proofs.Given.{over-column, over-constant}
-
--- ---- a name that is not declared
-
-skipped : (d : Variable) (v : Var) (ds : List Variable) (vs : List Var) (x : Name) → FitsDeclare d v → (variable_of ds x ≡ None → state_of vs x ≡ state.Scalar (pos 0)) → (b : Bool) → bytes_eq d.name x ≡ b → variable_of (d ∷ ds) x ≡ None →
-    state_of (v ∷ vs) x ≡ state.Scalar (pos 0)
-skipped d v ds vs x h rest true b is = let none : Some d.declare ≡ None = sym (ap (λ c. if c then Some d.declare else variable_of ds x) b) ∙ is in absurd (let e = none in cc)
-skipped d v ds vs x h rest false b is =
-    let same : bytes_eq v.name x ≡ false = ap (λ y. bytes_eq y x) h.name ∙ b in
-    ap (λ c. if c then v.state else state_of vs x) same ∙ rest (sym (ap (λ c. if c then Some d.declare else variable_of ds x) b) ∙ is)
-
-no_state : (n : ℕ) (ds : List Variable) (vs : List Var) (x : Name) → FitDeclares n ds vs → variable_of ds x ≡ None → state_of vs x ≡ state.Scalar (pos 0)
-no_state n [] [] x h is = refl
-no_state n [] (v ∷ vs) x h is = absurd h
-no_state n (d ∷ ds) [] x h is = absurd h
-no_state n (d ∷ ds) (v ∷ vs) x h is = skipped d v ds vs x h.1 (no_state _ ds vs x h.2) (bytes_eq d.name x) refl is
 
 -- ---- a variable of rank 0
 
@@ -82,14 +68,8 @@ entry_scalar e (kind.Declared f shape) h z = not_higher e.rank h.2 z
 entry_scalar e (kind.Allocatable f rank) h z = not_higher e.rank h.2 z
 entry_scalar e _ h z = absurd h
 
-same_operand : (a d : Operand) → Some a ≡ Some d → a ≡ d
-same_operand a d h = cc
-
-none_some : {P A : Type 0} (a : A) → None ≡ Some a → P
-none_some a h = absurd (let q = h in cc)
-
 variable_scalar : (c : Bool) (names : Names) (x : Name) (e : Entry) (d : Operand) → EntryIsKnown c names x e → e.rank ≡ 0 → variable_of names.variables x ≡ Some d → IsScalarKind d.kind
-variable_scalar true names x e d h z is = none_some d (sym h.0 ∙ is)
+variable_scalar true names x e d h z is = absurd (not-given d (sym h.0 ∙ is))
 variable_scalar false names x e d h z is = subst (λ a. IsScalarKind a.kind) (same_operand h.0 d (sym h.1 ∙ is)) (entry_scalar e h.0.kind h.2 z)
 
 entry_zero : (e : Entry) (ty : Typed) → Some (entry_type e) ≡ Some ty → ty.rank ≡ 0 → e.rank ≡ 0
@@ -99,7 +79,7 @@ pub name_scalar : (s : Scope) (x : Name) (st : Option Standing) (ty : Typed) (d 
 name_scalar s x None ty d h t z i is = no_type ty t
 name_scalar s x (Some (Declared e)) ty d h t z i is = variable_scalar e.constant s.names x e d h.1 (entry_zero e ty t z) is
 name_scalar s x (Some (Active e)) ty d h t z i is = variable_scalar false s.names x e d h.2 (entry_zero e ty t z) is
-name_scalar s x (Some Index) ty d h t z i is = none_some h.0 (sym i ∙ h.1)
+name_scalar s x (Some Index) ty d h t z i is = absurd (not-given h.0 (sym i ∙ h.1))
 name_scalar s x (Some Barred) ty d h t z i is = no_type ty t
 
 plain_truth : (c : Constancy) (b : Bool) → ((z : ℤ) → c ≡ Value z → ⊥) → constant_value c b ≡ truth b
@@ -180,7 +160,7 @@ module _ (at : List ℕ) (of : ℕ → Combination) (s : Scope) (w : World) (n :
       where
         by_constant : (c : ℕ) (o : Option ℤ) → constant_of w.constants x ≡ o → name_value w x (of c) ≡ truth (truth_of s.names.truths x)
         by_constant c (Some y) e = constant-value w x (of c) y (none c) e ∙ (fits y e ∙ plain_truth (known.constant_of s.names.constants x) (truth_of s.names.truths x) not)
-        by_constant c None e = variable-value w x (of c) (pos 0) (none c) e (no_state 0 s.names.variables w.vars x stands.world.variables is) ∙ ap truth (sym (stands.world.truths x e))
+        by_constant c None e = variable-value w x (of c) (pos 0) (none c) e (absent_state 0 s.names.variables w.vars x stands.world.variables is) ∙ ap truth (sym (stands.world.truths x e))
 
     by_index : (st : Option Standing) (ty : Typed) → NameIsKnown s x st → name_type st ≡ Some ty → ty.rank ≡ 0 → ((z : ℤ) → known.constant_of s.names.constants x ≡ Value z → ⊥) →
         (i : Option ValueId) → index_of s.indexes x ≡ i → IndexStands at of s.names env n x i → DoesOver at s n env (index_or_other s x i) (Ok values) IsColumn

@@ -1,7 +1,6 @@
 -- The sides of an assignment in a FORALL, as regions over combinations.
 use Rattle.std.proofs.Common.{◌≡◌, refl, sym, ap, ◌∙◌, subst, ℕ, ◌≤◌, Bool, true, false, ◌||◌, List, [], map, Option, Some, None, if◌then◌else◌, true≢false, arith}
 use Rattle.std.proofs.lemmas.Bool.{ltb-false}
-use Rattle.ws_base.specs.declared.name.Name.{Name}
 use Rattle.ws_base.specs.declared.refusal.RefusalKind.TheVariants as kind
 use Rattle.ws_space.specs.declared.state.Var.{Var}
 use Rattle.ws_space.specs.Values.{state_of}
@@ -32,15 +31,16 @@ use Rattle.kind_laws.specs.Standing.{Knows}
 use Rattle.kind_laws.proofs.NoFaults.{none_first, none_after, not_broken, impossible, left_false, right_false}
 use Rattle.kind_laws.proofs.TypedExpressions.{type_known}
 use Rattle.kind_laws.proofs.Sides.{sides_are_expressions}
+use Rattle.world_laws.proofs.Fitting.{state_fits}
 use Rattle.forall_laws.specs.Walks.{IsColumn, ArePlaces}
 use Rattle.forall_laws.specs.Combined.{IndexStands, StandsOver}
-use Rattle.forall_laws.proofs.Fitting.{state_fits}
 use Rattle.forall_laws.proofs.Walking.{over-scoped}
 use Rattle.forall_laws.proofs.Yields.{YieldsOver, over-yielded}
 use Rattle.forall_laws.proofs.Assigned.{IsValue, IsTarget}
 use Rattle.forall_laws.proofs.Expressions.{over-value}
 use Rattle.forall_laws.proofs.Lefts.{over-target}
 use Rattle.forall_laws.proofs.Ranks.{part_variable}
+use Rattle.forall_laws.proofs.Given.{stands-later}
 
 -- ---- scopes inside ops that bring no index names
 
@@ -54,15 +54,7 @@ module _ (at : List ℕ) (of : ℕ → Combination) (s : Scope) (w : World) (n :
   }
 
   pub stands-higher : (m : ℕ) → n ≤ m → StandsOver at of s w n env → StandsOver at of s w m env
-  stands-higher m l h = record {
-    world = h.world;
-    variables = h.variables;
-    declared = omega (arith, l, h.declared);
-    indexes = λ x. higher x (index_of s.indexes x) (h.indexes x);
-  } where
-    higher : (x : Name) (o : Option _) → IndexStands at of s.names env n x o → IndexStands at of s.names env m x o
-    higher x (Some v) g = record { values = g.values; low = omega (arith, l, g.low); found = g.found; combined = g.combined; apart = g.apart }
-    higher x None g = g
+  stands-higher m l h = stands-later at of s w n m env env l (λ k low. refl) h
 
 -- ---- ranks
 

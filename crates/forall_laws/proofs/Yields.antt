@@ -1,12 +1,10 @@
 -- Regions over combinations that yield one value.
-use Rattle.std.proofs.Common.{◌≡◌, refl, sym, ap, ◌∙◌, subst, ℕ, ◌+◌, List, [], ◌∷◌, ◌++◌, None, Ok, Err}
+use Rattle.std.proofs.Common.{◌≡◌, refl, sym, ◌∙◌, subst, ℕ, ◌+◌, List, [], ◌∷◌, ◌++◌, None, Ok, Err}
 use Rattle.ws_base.specs.Outcomes.{Staged}
 use Rattle.hlfir_ops.specs.declared.what.What.TheVariants as what
 use Rattle.hlfir_ops.specs.declared.op.Op.{Op}
-use Rattle.hlfir_ops.specs.declared.op.Region.{Region, out-roll-Region}
-use Rattle.hlfir_ops.specs.Trees.{op_of, region_of}
+use Rattle.hlfir_ops.specs.Trees.{op_of}
 use Rattle.hlfir_ops.specs.Numbers.{numbers_of}
-use Rattle.hlfir_ops.specs.RulesRegions.{ops_in}
 use Rattle.hlfir_meaning.specs.Environments.{Value, Environment, Yielded, yielding}
 use Rattle.hlfir_meaning.specs.Places.{over, over_ops}
 use Rattle.hlfir_ops.specs.declared.op.Op.{out-Op}
@@ -43,6 +41,3 @@ module _ (at : List ℕ) (s : Scope) (n : ℕ) (env : Environment) (p : Lowering
   pub over-yielded : {A : Type 0} (r : Staged A) (Q : Operand → A → ℕ → Environment → Type 0) (P : A → Yielded → Type 0) →
       ((a : A) (after : Environment) → Q (p s n).made a (n + numbers_of (p s n).ops) after → P a (yielding after ((p s n).made.value ∷ []))) → DoesOver at s n env p r Q → YieldsOver at n env (yielded p s n).ops r P
   over-yielded r Q P g h = subst (λ ops. YieldsOver at n env ops r P) (sym yielded_ops) (by_result r Q P g h)
-
-pub ops_in-second : (first : Region) (ops : List Op) (rest : List Region) → ops_in (first ∷ region_of ops ∷ rest) 1 ≡ ops
-ops_in-second first ops rest = ap (λ f. f.ops) (out-roll-Region (record { ops = ops }))

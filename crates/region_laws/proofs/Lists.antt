@@ -1,5 +1,5 @@
 -- Several scalars, one after another.
-use Rattle.std.proofs.Common.{◌≡◌, refl, sym, ap, ◌∙◌, subst, inl, inr, ℕ, ◌+◌, ◌<◌, ◌≤◌, ◌==◌, true, false, List, [], ◌∷◌, ◌++◌, map, length, All, Ok, ℤ, arith}
+use Rattle.std.proofs.Common.{◌≡◌, refl, sym, ap, ◌∙◌, subst, ℕ, ◌+◌, ◌<◌, ◌≤◌, ◌==◌, true, false, List, [], ◌∷◌, ◌++◌, map, length, All, Ok, ℤ, arith}
 use Rattle.std.proofs.lemmas.Bool.{true≢false}
 use Rattle.std.proofs.lemmas.List.Elements.{All-head, All-tail, All-weaker}
 use Rattle.ws_base.specs.Outcomes.{Staged, ◌>>=◌}
@@ -30,6 +30,7 @@ use Rattle.value_laws.specs.Vectors.{VectorsAre}
 use Rattle.value_laws.proofs.ClearExpressions.{clear-whole}
 use Rattle.value_laws.proofs.OwnNumbers.{DeclaresBelow}
 use Rattle.value_laws.proofs.Walking.{does-done, does-then}
+use Rattle.value_laws.proofs.Elementals.{own-small}
 use Rattle.part_laws.proofs.Joined.{expressions-stand}
 use Rattle.sound_laws.proofs.ExpressionsSound.{given-sound}
 use Rattle.world_laws.specs.Meanings.{StandsOutside, IsIntegerScalar, AreVectorsOf}
@@ -42,10 +43,6 @@ use Rattle.region_laws.proofs.ListVectors.{tidy-list, vectors-first, vectors-res
 scalar_value : (base low high : ℕ) (env : Environment) (x : Operand) (t : Term) → (rank_of x.kind == 0) ≡ true → Stands base low high env x t → env x.value.number ≡ scalar (source.value_of t)
 scalar_value base low high env x (term.Scalar z) zero h = h.found ∙ h.rank.1
 scalar_value base low high env x t zero h = absurd (true≢false (sym zero ∙ h.rank))
-
-own_below : (base low high k : ℕ) → base ≤ low → low ≤ high → IsOwn base low high k → k < high
-own_below base low high k g l (inl small) = omega (arith, g, l, small)
-own_below base low high k g l (inr own) = own.1
 
 abbrev pub IsScalar : Scope → Expr → Type 0
 IsScalar s e = IsSound true s e × IsItem s e
@@ -80,7 +77,7 @@ module _ (s : Scope) (w : World) (fits : FitsNames s.names w) (vectors : List �
         (rest_at m middle at kept)
         (λ zs j after at' kept' h'.
         does-done vectors s j after (x ∷ (values es s m).made) (source.value_of t ∷ zs) AreValues
-        (ap (λ v. v ∷ map (λ y. after y.value.number) (values es s m).made) (kept' x.value.number (own_below base n m x.value.number g (omega (arith, at)) h.own) ∙ here)
+        (ap (λ v. v ∷ map (λ y. after y.value.number) (values es s m).made) (kept' x.value.number (own-small base n m x.value.number g (omega (arith, at)) h.own) ∙ here)
         ∙ ap (λ vs. scalar (source.value_of t) ∷ vs) h')))
       where
         rest_at : (m : ℕ) (middle : Environment) → m ≡ n + numbers_of (value e s n).ops → Kept n env middle → Does vectors s m middle (values es) (scalars_of w es) AreValues

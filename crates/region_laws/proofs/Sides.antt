@@ -5,7 +5,7 @@ use mathlib.Core.Former.{Count}
 use Rattle.ws_base.specs.declared.name.Name.{Name}
 use Rattle.ws_base.specs.declared.refusal.RefusalKind.TheVariants as refusal
 use Rattle.ws_space.specs.declared.state.VarState.{VarState}
-use Rattle.ws_tree.specs.Trees.{Subs, end_subs, more_subs}
+use Rattle.ws_tree.specs.Trees.{Subs}
 use Rattle.ws_tree.specs.Grammatical.{HasSubs, AreSubs}
 use Rattle.ws_types.specs.declared.types.Row.{Row}
 use Rattle.ws_types.specs.declared.types.Standing.{Standing}
@@ -24,6 +24,7 @@ use Rattle.lower_assign.specs.Scopes.{Scope, index_of}
 use Rattle.kind_laws.specs.Standing.{Knows, EntryIsKnown, NameIsKnown}
 use Rattle.kind_laws.proofs.TypedExpressions.{types_are_known}
 use Rattle.kind_laws.proofs.ExpressionsMade.{kinds_are_types}
+use Rattle.kind_laws.proofs.FormsMade.{some_subs}
 use Rattle.sound_laws.proofs.NamesSound.{front-none, back-none, when-none, part-variable}
 use Rattle.sound_laws.proofs.ExpressionsSound.{subscripts-sound}
 use Rattle.value_laws.specs.Sound.{IsSoundPart, AreSoundSubs}
@@ -58,10 +59,6 @@ module _ (s : Scope) (x : Name) (line : ℕ) where
   variable-name st h f g = let no = no_target st g in known_name st h f no.0 no.1
 
 -- ---- parts
-
-some_subs : {k : Count} (subs : Subs k) → HasSubs subs → 0 < how_many subs
-some_subs end_subs h = absurd h
-some_subs (more_subs x xs) h = omega arith
 
 part_none : (line : ℕ) (ty : Option Typed) (many : ℕ) → part_faults line ty many ≡ [] → is_other_number ty many ≡ false
 unfolding part_faults

@@ -1,6 +1,6 @@
 -- ALLOCATE, item after item.
 use mathlib.Core.Path.{fun_ext}
-use Rattle.std.proofs.Common.{◌≡◌, refl, sym, ap, ◌∙◌, subst, ℕ, suc, ◌+◌, ◌≤◌, Bool, true, false, List, [], ◌∷◌, length, All, None, Ok, Err, IfOk, arith}
+use Rattle.std.proofs.Common.{◌≡◌, refl, sym, ap, ◌∙◌, subst, ℕ, suc, ◌+◌, ◌≤◌, Bool, true, false, List, [], ◌∷◌, length, All, None, IfOk, arith}
 use Rattle.std.proofs.lemmas.List.Elements.{All-head, All-tail}
 use Rattle.ws_base.specs.Outcomes.{Staged, ◌>>=◌}
 use Rattle.ws_space.specs.declared.shape.Dim.{Dim}
@@ -33,16 +33,15 @@ use Rattle.lower_assign.specs.Lowerings.{scoped, statement_of, regions_from, hol
 use Rattle.lower_assign.specs.References.{declare_of}
 use Rattle.lower_assign.specs.Statements.{all_yielded, all_bounds, allocation}
 use Rattle.kind_laws.proofs.NoFaults.{none_first, none_after, not_broken}
-use Rattle.value_laws.specs.Variables.{Fits}
 use Rattle.world_laws.specs.Worlds.{FitsNames}
 use Rattle.world_laws.specs.Meanings.{ListsMean}
-use Rattle.run_laws.proofs.Fitting.{FitsWhereDeclared, takes_state, state_fits}
+use Rattle.world_laws.proofs.Fitting.{FitsWhereDeclared, takes_state, state_fits}
 use Rattle.run_laws.proofs.States.{allocated-fits}
 use Rattle.run_laws.proofs.Headers.{dims_are}
 use Rattle.run_laws.proofs.Parts.{statement-allocate}
 use Rattle.run_laws.proofs.Items.{MakesItems, later_items}
 use Rattle.run_laws.proofs.Outside.{Outside, stands, outside-later, outside-inside}
-use Rattle.run_laws.proofs.Known.{IsAllocatable, allocatable, fits_found}
+use Rattle.run_laws.proofs.Known.{IsAllocatable, allocatable, found_fits}
 use Rattle.run_laws.proofs.Regions.{holding-region, Takes, takes}
 use Rattle.run_laws.proofs.Leaving.{LeavesVars, leaves-then}
 
@@ -98,11 +97,8 @@ module _ (lists : ListsMean) (t : List Row) (line : ℕ) (s : Scope) where
         subst (λ r. LeavesVars s.names r (source.allocate w (p ∷ ps))) (sym step)
         (leaves-then s.names (λ ds. length ds ≡ length p.shape) (bound_dims w p.shape) _ _ (dims-length w p.shape) (λ ds many.
         leaves-then s.names (λ q. FitsWhereDeclared s.names.variables p.name q) (allocated_with (state_of w.vars p.name) ds) _ _
-        (found_fits (allocated_with (state_of w.vars p.name) ds) (allocated-fits variable.elem variable.rank (state_of w.vars p.name) ds (many ∙ rank_is) variable.some narrow))
-        (λ q h. next q (takes_state s.names w p.name q fits h)))) where
-          found_fits : (r : Staged VarState) → IfOk r (Fits (kinds.Allocatable variable.elem variable.rank)) → IfOk r (FitsWhereDeclared s.names.variables p.name)
-          found_fits (Ok q) h = fits_found s.names p.name variable.declare (kinds.Allocatable variable.elem variable.rank) q variable.found variable.kind h
-          found_fits (Err e) h = tt
+        (found_fits s.names p.name variable.declare (kinds.Allocatable variable.elem variable.rank) (allocated_with (state_of w.vars p.name) ds) variable.found variable.kind (allocated-fits variable.elem variable.rank (state_of w.vars p.name) ds (many ∙ rank_is) variable.some narrow))
+        (λ q h. next q (takes_state s.names w p.name q fits h))))
 
   pub allocates : (ps : List Part) (n : ℕ) (w : World) → Outside t s n → FitsNames s.names w → All IsPart ps → allocations_faults t line ps ≡ [] →
       LeavesVars s.names (allocate w.vars (later_items (allocation line) (allocations line) s ps n)) (source.allocate w ps)

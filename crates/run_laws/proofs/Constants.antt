@@ -19,11 +19,10 @@ use Rattle.array_meaning.specs.Program.{declaring, declared, constant_value, nam
 use Rattle.lower_assign.specs.declared.names.NamedTruth.{NamedTruth}
 use Rattle.lower_assign.specs.Known.{truth_rows, truths_of, variable, declares_variable, if_variable, variable_decls, numbered}
 use Rattle.lower_assign.specs.References.{variable_of, truth_of}
-use Rattle.kind_laws.proofs.ConstantsKnown.{not_later, declared_more}
+use Rattle.kind_laws.proofs.ConstantsKnown.{not_later, declared_more, new_name}
 use Rattle.small_laws.proofs.NoFaults.{none_first, none_after, impossible, left_false, right_false}
 use Rattle.small_laws.proofs.Constancy.{Agree}
 use Rattle.small_laws.proofs.Constants.{HasOnly, agree_after, only_after}
-use Rattle.run_laws.proofs.Declares.{new_name}
 
 -- ---- one more constant
 

@@ -47,10 +47,10 @@ use Rattle.small_laws.proofs.Tables.{active_fit}
 use Rattle.world_laws.specs.Worlds.{FitsNames}
 use Rattle.world_laws.specs.Yields.{region}
 use Rattle.world_laws.specs.Meanings.{IsSimple, MeansStatement, ListsMean, SimplesMean}
+use Rattle.world_laws.proofs.Fitting.{takes_state}
 use Rattle.run_laws.proofs.InOrder.{Same, and_then-done}
 use Rattle.run_laws.proofs.Parts.{statement-assign, statement-masked, statement-forall, statement-shared, statement-loop}
 use Rattle.run_laws.proofs.Loops.{FitsState, same-counted, same-region, loop_same}
-use Rattle.run_laws.proofs.Fitting.{takes_state}
 use Rattle.run_laws.proofs.Headers.{header_is}
 use Rattle.run_laws.proofs.Appended.{StartsAnew}
 use Rattle.run_laws.proofs.Outside.{Outside, stands, outside-later, outside-inside}

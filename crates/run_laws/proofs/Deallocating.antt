@@ -1,6 +1,6 @@
 -- DEALLOCATE, item after item.
 use mathlib.Core.Path.{fun_ext}
-use Rattle.std.proofs.Common.{◌≡◌, refl, sym, ap, ◌∙◌, subst, ℕ, ◌+◌, Bool, true, false, List, [], ◌∷◌, None, Ok, Err, IfOk, arith}
+use Rattle.std.proofs.Common.{◌≡◌, refl, sym, ap, ◌∙◌, subst, ℕ, ◌+◌, Bool, true, false, List, [], ◌∷◌, None, arith}
 use Rattle.ws_base.specs.Outcomes.{Staged, ◌>>=◌}
 use Rattle.ws_space.specs.declared.state.VarState.{VarState}
 use Rattle.ws_space.specs.declared.state.Var.{Var}
@@ -24,14 +24,13 @@ use Rattle.lower_assign.specs.Lowerings.{scoped, statement_of, holding}
 use Rattle.lower_assign.specs.References.{declare_of}
 use Rattle.lower_assign.specs.Statements.{deallocation}
 use Rattle.kind_laws.proofs.NoFaults.{none_first, none_after}
-use Rattle.value_laws.specs.Variables.{Fits}
 use Rattle.world_laws.specs.Worlds.{FitsNames}
-use Rattle.run_laws.proofs.Fitting.{FitsWhereDeclared, takes_state}
+use Rattle.world_laws.proofs.Fitting.{FitsWhereDeclared, takes_state}
 use Rattle.run_laws.proofs.States.{freed-fits}
 use Rattle.run_laws.proofs.Parts.{statement-deallocate}
 use Rattle.run_laws.proofs.Items.{MakesItems, later_items}
 use Rattle.run_laws.proofs.Outside.{Outside, outside-later}
-use Rattle.run_laws.proofs.Known.{IsAllocatable, allocatable, fits_found}
+use Rattle.run_laws.proofs.Known.{IsAllocatable, allocatable, found_fits}
 use Rattle.run_laws.proofs.Regions.{Takes, takes}
 use Rattle.run_laws.proofs.Leaving.{LeavesVars, leaves-then}
 
@@ -69,11 +68,8 @@ module _ (t : List Row) (line : ℕ) (s : Scope) where
     one xs next =
         subst (λ r. LeavesVars s.names r (source.deallocate w (x ∷ xs))) (sym step)
         (leaves-then s.names (λ q. FitsWhereDeclared s.names.variables x q) (freed (state_of w.vars x)) _ _
-        (found_fits (freed (state_of w.vars x)) (freed-fits variable.elem variable.rank (state_of w.vars x)))
-        (λ q h. next q (takes_state s.names w x q fits h))) where
-          found_fits : (r : Staged VarState) → IfOk r (Fits (kinds.Allocatable variable.elem variable.rank)) → IfOk r (FitsWhereDeclared s.names.variables x)
-          found_fits (Ok q) h = fits_found s.names x variable.declare (kinds.Allocatable variable.elem variable.rank) q variable.found variable.kind h
-          found_fits (Err e) h = tt
+        (found_fits s.names x variable.declare (kinds.Allocatable variable.elem variable.rank) (freed (state_of w.vars x)) variable.found variable.kind (freed-fits variable.elem variable.rank (state_of w.vars x)))
+        (λ q h. next q (takes_state s.names w x q fits h)))
 
   pub deallocates : (xs : List Name) (n : ℕ) (w : World) → Outside t s n → FitsNames s.names w → deallocations_faults t line xs ≡ [] →
       LeavesVars s.names (deallocate w.vars (later_items (deallocation line) (deallocations line) s xs n)) (source.deallocate w xs)

@@ -16,24 +16,24 @@ use Rattle.ws_tree.specs.declared.stmt.Bound.TheVariants as bound
 use Rattle.ws_tree.specs.declared.stmt.Decl.{Decl}
 use Rattle.ws_types.specs.declared.constant.Constant as types
 use Rattle.ws_types.specs.Constants.{constancy, constant_faults}
-use Rattle.ws_sema.specs.Declarations.{is_declared, is_large, bound_faults, bounds_faults, heading_faults, shape_faults, decl_faults, decls_faults, with_constant, constants_after}
+use Rattle.ws_sema.specs.Declarations.{is_large, bound_faults, bounds_faults, shape_faults, decl_faults, decls_faults, with_constant, constants_after}
 use Rattle.array_meaning.specs.declared.world.Constant.{Constant}
 use Rattle.array_meaning.specs.Forall.{scalar}
 use Rattle.array_meaning.specs.Program as source
 use Rattle.array_meaning.specs.Program.{constants_alone, staged_or, declaring, declared}
 use Rattle.hlfir_ops.specs.declared.kinds.Elem.{Elem}
-use Rattle.hlfir_ops.specs.declared.kinds.ValueKind.TheVariants as kind
 use Rattle.hlfir_ops.specs.RulesValues.{elem_of, rank_of}
 use Rattle.hlfir_meaning.specs.Meaning.{is_truth, first_state}
 use Rattle.lower_assign.specs.declared.names.Variable.{Variable}
 use Rattle.lower_assign.specs.Known.{elem, value_or_zero, bound_dim, declared_shape, variable_kind, kind_of, variable, declares_variable, if_variable, variable_decls, numbered}
-use Rattle.kind_laws.proofs.ConstantsKnown.{value_after}
+use Rattle.kind_laws.proofs.ConstantsKnown.{value_after, new_name}
 use Rattle.small_laws.proofs.NoFaults.{none_first, none_after, not_broken, left_false, impossible}
 use Rattle.small_laws.proofs.Constancy.{Agree, IsComputed, computed, scalar_is, valued}
 use Rattle.small_laws.proofs.Constants.{HasOnly, agree_after, only_after}
 use Rattle.value_laws.specs.Variables.{Fits}
 use Rattle.world_laws.specs.Worlds.{FitsDeclare, FitDeclares}
-use Rattle.run_laws.proofs.States.{shape_rank, kept-array, array_fits}
+use Rattle.world_laws.proofs.Filling.{declared_fits}
+use Rattle.run_laws.proofs.States.{shape_rank}
 use Rattle.run_laws.proofs.Extended.{Extends, constancy-extends}
 
 -- ---- bounds
@@ -117,7 +117,7 @@ first_fits cs e false (b ∷ bs) narrow =
     let rank = rank_is cs (b ∷ bs) narrow in
     let many : length (dims shape) ≡ shape.rank = ap length (dims_are cs (b ∷ bs) narrow) ∙ (length-map (b ∷ bs) (bound_dim cs) ∙ sym rank) in
     let some : (shape.rank == 0) ≡ false = grind (arith, rank) in
-    array_fits shape.rank (zeros (dims shape)) (kept-array (dims shape) _ shape.rank many some (subst (λ n. n ≤ 3) (sym rank) narrow)) some (kind.Declared e shape) (λ a is. is)
+    declared_fits e shape (dims shape) _ many some (subst (λ n. n ≤ 3) (sym rank) narrow)
 
 -- ---- all variables
 
@@ -135,10 +135,6 @@ begins n d ds v vars number is fits rest = record {
 narrow_shape : (cs : List types.Constant) (d : Decl) → shape_faults cs d ≡ [] → length d.shape ≤ 3
 unfolding shape_faults
 narrow_shape cs d f = ltb-false 3 (length d.shape) (left_false _ _ (not_broken (is_large cs d.shape) _ _ (none_after _ _ f)))
-
-pub new_name : (before : List Decl) (d : Decl) → heading_faults before d ≡ [] → is_declared before d.name ≡ false
-unfolding heading_faults
-new_name before d f = not_broken _ _ _ (none_after _ _ (none_first _ _ f))
 
 module _ (before : List Decl) (cs more : List types.Constant) (ks : List Constant) (d : Decl) (ds : List Decl) (agree : Agree cs ks) (extends : Extends cs more) (f : decl_faults before cs d ≡ []) where
   narrow : length d.shape ≤ 3

@@ -1,10 +1,10 @@
 -- What an item of READ fills: the same elements of the same array as its source does.
-use Rattle.std.proofs.Common.{◌≡◌, refl, sym, ap, ◌∙◌, subst, ℕ, zero, suc, ◌+◌, ◌<◌, List, [], ◌∷◌, All, Some, Ok, Err, IfOk, ℤ, arith}
+use Rattle.std.proofs.Common.{◌≡◌, refl, sym, ap, ◌∙◌, subst, ℕ, ◌<◌, List, [], ◌∷◌, All, Some, Ok, Err, IfOk, ℤ}
 use Rattle.std.proofs.lemmas.List.Elements.{All-nil, All-cons}
 use Rattle.ws_base.specs.Outcomes.{Staged, ◌>>=◌}
 use Rattle.ws_space.specs.declared.state.ArrayValue.{ArrayValue}
 use Rattle.ws_space.specs.declared.state.VarState.{VarState}
-use Rattle.ws_space.specs.Shapes.{Extents, dims, extents_of, size, places_from, all_places}
+use Rattle.ws_space.specs.Shapes.{Extents, dims, extents_of, size, all_places}
 use Rattle.ws_space.specs.Replace.{filled}
 use Rattle.array_meaning.specs.declared.term.Term.{Term}
 use Rattle.array_meaning.specs.Stage1.{whole_array}
@@ -21,6 +21,7 @@ use Rattle.value_laws.specs.Standing.{AreIn}
 use Rattle.value_laws.proofs.Names.{whole_operands}
 use Rattle.world_laws.specs.Yields.{TargetStands}
 use Rattle.where_laws.proofs.Wholes.{whole-targets, whole-array}
+use Rattle.where_laws.proofs.Places.{all_within}
 
 -- ---- the shape of a term that is one array operand, or none
 
@@ -33,13 +34,6 @@ same_operand [] = refl
 same_operand (n ∷ ns) = refl
 
 -- ---- places
-
-from_within : (k n m : ℕ) → k + n ≡ m → All (λ p. p < m) (places_from k n)
-from_within k zero m h = All-nil (λ p. p < m)
-from_within k (suc n) m h = All-cons (λ p. p < m) k (places_from (suc k) n) (omega (arith, h)) (from_within (suc k) n m (omega (arith, h)))
-
-all_within : (e : Extents) → All (λ p. p < size e) (all_places e)
-all_within e = from_within 0 (size e) (size e) (omega arith)
 
 all_in : (e : Extents) → AreIn (all_places e) (array_operand e)
 all_in [] = All-nil (λ f. All (λ p. p < size f) (all_places []))

@@ -36,8 +36,9 @@ use Rattle.kind_laws.proofs.NoFaults.{none_first, none_after, impossible}
 use Rattle.kind_laws.proofs.Sides.{sides_are_expressions}
 use Rattle.world_laws.specs.Yields.{region, scalars_of}
 use Rattle.world_laws.specs.Meanings.{StandsOutside, IsIntegerScalar, ListsMean}
-use Rattle.run_laws.proofs.Listing.{triple-list, bounds-list, stride_of, triple_exprs, bounds_exprs}
+use Rattle.world_laws.proofs.Listing.{triple-list, stride_of, triple_exprs}
 use Rattle.run_laws.proofs.Yielding.{YieldsScalars, list_yielded}
+use Rattle.run_laws.proofs.BoundsListed.{bounds-list, bounds_exprs}
 
 -- ---- operands that hold these values
 

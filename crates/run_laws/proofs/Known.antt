@@ -1,7 +1,9 @@
 -- The variables of ALLOCATE, DEALLOCATE and DO.
-use Rattle.std.proofs.Common.{◌≡◌, refl, sym, ap, ◌∙◌, subst, ℕ, ◌==◌, Bool, true, false, not, ◌&&◌, List, [], Option, Some, None, IfSome, nat_eq, true≢false, arith}
+use Rattle.std.proofs.Common.{◌≡◌, refl, sym, ap, ◌∙◌, subst, ℕ, ◌==◌, Bool, true, false, not, ◌&&◌, List, [], Option, Some, None, IfSome, nat_eq, true≢false, arith, Ok, Err, IfOk}
 use Rattle.std.proofs.lemmas.Bool.{eqb-true}
 use Rattle.ws_base.specs.declared.refusal.RefusalKind.TheVariants as kind
+use Rattle.ws_base.specs.Outcomes.{Staged}
+use Rattle.ws_space.specs.declared.state.VarState.{VarState}
 use Rattle.ws_types.specs.declared.types.Entry.{Entry}
 use Rattle.ws_types.specs.declared.types.Row.{Row}
 use Rattle.ws_types.specs.declared.types.Standing.{Standing}
@@ -22,7 +24,7 @@ use Rattle.kind_laws.proofs.NoFaults.{none_first, none_after, not_broken, not_fa
 use Rattle.kind_laws.proofs.ScopesKnown.{entry_variable}
 use Rattle.small_laws.proofs.Tables.{AreFit, IsFit, standing_fit}
 use Rattle.value_laws.specs.Variables.{Fits}
-use Rattle.run_laws.proofs.Fitting.{FitsWhereDeclared}
+use Rattle.world_laws.proofs.Fitting.{FitsWhereDeclared}
 
 -- ---- ALLOCATE and DEALLOCATE
 
@@ -110,3 +112,7 @@ scalar_variable t s w line x known f = scalar_at s w line x (standing_of t x) (k
 -- a name has one declare
 pub fits_found : (names : Names) (x : Name) (d : Operand) (k : ValueKind) (s : _) → variable_of names.variables x ≡ Some d → d.kind ≡ k → Fits k s → FitsWhereDeclared names.variables x s
 fits_found names x d k s found same h e is = subst (λ c. Fits c s) (sym (ap (λ o. (or_nothing o).kind) (sym is ∙ found) ∙ same)) h
+
+pub found_fits : (names : Names) (x : Name) (d : Operand) (k : ValueKind) (r : Staged VarState) → variable_of names.variables x ≡ Some d → d.kind ≡ k → IfOk r (Fits k) → IfOk r (FitsWhereDeclared names.variables x)
+found_fits names x d k (Ok q) found same h = fits_found names x d k q found same h
+found_fits names x d k (Err e) found same h = tt

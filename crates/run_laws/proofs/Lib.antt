@@ -1,9 +1,8 @@
 pub mod InOrder
 pub mod Parts
-pub mod Fitting
 pub mod States
 pub mod Loops
-pub mod Listing
+pub mod BoundsListed
 pub mod Yielding
 pub mod Headers
 pub mod Appended

@@ -11,7 +11,7 @@ use Rattle.kind_laws.proofs.ScopesKnown.{inside_known}
 use Rattle.small_laws.proofs.Tables.{AreFit}
 use Rattle.world_laws.specs.Worlds.{FitsNames}
 use Rattle.world_laws.specs.Meanings.{StandsOutside}
-use Rattle.run_laws.proofs.Fitting.{as_many}
+use Rattle.world_laws.proofs.Fitting.{as_many}
 
 pub record Outside (t : List Row) (s : Scope) (n : ℕ) : Type 0 where
   pub knows : Knows t s

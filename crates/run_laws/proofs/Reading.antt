@@ -35,8 +35,8 @@ use Rattle.kind_laws.proofs.NoFaults.{none_first, none_after}
 use Rattle.world_laws.specs.Worlds.{FitsNames}
 use Rattle.world_laws.specs.Yields.{region, IsOfName, left_target, Reaches}
 use Rattle.world_laws.specs.Meanings.{LeftsMean}
-use Rattle.run_laws.proofs.Fitting.{FitsWhereDeclared, takes_state, state_fits}
-use Rattle.run_laws.proofs.States.{filled-fits}
+use Rattle.world_laws.proofs.Fitting.{FitsWhereDeclared, takes_state, state_fits}
+use Rattle.world_laws.proofs.Filling.{filled_fits}
 use Rattle.run_laws.proofs.Filling.{FillsAlike, fills_alike, filled_of}
 use Rattle.run_laws.proofs.Parts.{statement-read}
 use Rattle.run_laws.proofs.Items.{MakesItems, later_items}
@@ -123,7 +123,7 @@ module _ (lefts : LeftsMean) (input : List ℕ) (t : List Row) (line : ℕ) (s :
     state_fits_again : (q : assigned.Target) (xs : List ℤ) → Selects (state_of w.vars (target_name e)) q → IfOk (source.read_into q xs) (FitsWhereDeclared s.names.variables (target_name e))
     state_fits_again (assigned.movable x) xs h = absurd h
     state_fits_again (assigned.selection u) xs h = filled_of u h.0 xs (FitsWhereDeclared s.names.variables (target_name e)) h.1 (λ ts d is.
-        let here = state_fits s.names w (target_name e) d fits is in filled-fits d.kind (state_of w.vars (target_name e)) h.0 ts xs here.fits here.narrow h.2)
+        let here = state_fits s.names w (target_name e) d fits is in filled_fits d.kind (state_of w.vars (target_name e)) h.0 _ here.narrow here.fits h.2)
 
     filled_alike : (q : assigned.Target) → Selects (state_of w.vars (target_name e)) q → LeavesItem s.names (filling (is_logical w.vars (target_name e)) (selection_extents q) (source.read_into q) (target_name e)) (from_source q)
     filled_alike q h =

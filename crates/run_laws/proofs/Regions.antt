@@ -1,5 +1,5 @@
 -- The regions of a lowered op, and the variable that it takes.
-use Rattle.std.proofs.Common.{◌≡◌, ap, ◌∙◌, ℕ, ◌+◌, List, [], ◌∷◌, length, Some, None, arith}
+use Rattle.std.proofs.Common.{◌≡◌, ap, ◌∙◌, ℕ, ◌+◌, List, [], ◌∷◌, length, Some, None, arith, refl}
 use Rattle.std.specs.Prelude.{⊤}
 use Rattle.ws_space.specs.declared.state.VarState.{VarState}
 use Rattle.ws_space.specs.declared.state.Var.{Var}
@@ -23,7 +23,7 @@ use Rattle.lower_assign.specs.References.{variable_of, declare_of, or_nothing}
 use Rattle.value_laws.proofs.Ops.{ops_in-first}
 use Rattle.world_laws.specs.Worlds.{FitsNames}
 use Rattle.world_laws.specs.Yields.{region}
-use Rattle.run_laws.proofs.Fitting.{state_fits}
+use Rattle.world_laws.proofs.Fitting.{state_fits, refers}
 
 -- the ops of the first region, whose op gives no value and brings no index names there
 abbrev pub inner_ops : What → ℕ → Lowering ⊤ → Scope → ℕ → List Op
@@ -59,7 +59,7 @@ pub declare_variable : (names : Names) (w : World) (x : Name) (d : Operand) → 
     (v : Var) × (of_variables w.vars (declare_of names x).value.number ≡ variable v) × (v.name ≡ x) × (v.state ≡ state_of w.vars x)
 declare_variable names w x d h is =
     let at = state_fits names w x d h is in
-    (at.var, ap (λ o. of_variables w.vars (or_nothing o).value.number) is ∙ (ap (of_variables w.vars) (let e : d.value.number ≡ at.place = omega (arith, at.number) in e) ∙ at.found), at.name, at.state)
+    (at.var, ap (λ o. of_variables w.vars (or_nothing o).value.number) is ∙ refers w.vars x d at (of_variables w.vars) (λ k low. refl), at.name, at.state)
 
 module _ (names : Names) (w : World) (x : Name) (d : Operand) (h : FitsNames names w) (is : variable_of names.variables x ≡ Some d) where
   pub takes : (what : What) (line : ℕ) (regions : List Region) (number : ℕ) → Takes w.vars x (record { number = number; op = op_of what line ((declare_of names x).value ∷ []) None regions })

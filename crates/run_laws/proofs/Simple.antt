@@ -1,10 +1,8 @@
 -- Assignments and constructs, alone and in regions.
-use Rattle.std.proofs.Common.{◌≡◌, refl, sym, ap, ◌∙◌, subst, ℕ, suc, ◌+◌, List, [], ◌∷◌, ◌++◌, length, None, Result, Ok, Err, arith}
+use Rattle.std.proofs.Common.{◌≡◌, refl, sym, ap, ◌∙◌, subst, ℕ, suc, ◌+◌, List, [], ◌∷◌, ◌++◌, length, None, Result, Ok, arith}
 use mathlib.Core.Former.{Count}
 use Rattle.ws_base.specs.declared.fault.Fault.{Fault}
 use Rattle.ws_base.specs.declared.refusal.RefusalKind.TheVariants as kind
-use Rattle.ws_base.specs.Outcomes.{◌>>=◌}
-use Rattle.ws_space.specs.declared.state.Var.{Var}
 use Rattle.ws_tree.specs.declared.stmt.Body.{Body}
 use Rattle.ws_tree.specs.declared.stmt.Body.TheVariants.{Assign, Masked', Forall', Loop', Allocate, Deallocate, Read, Shared', Unsupported, TooDeep as TooDeep'}
 use Rattle.ws_tree.specs.Trees.{Stmts, end_stmts, more_stmts}
@@ -28,6 +26,7 @@ use Rattle.lower_constructs.specs.Modules.{statement, statements}
 use Rattle.kind_laws.proofs.NoFaults.{none_first, none_after, impossible}
 use Rattle.world_laws.specs.Worlds.{FitsNames}
 use Rattle.world_laws.specs.Meanings.{IsSimple, LeavesWorld, MeansStatement, SimplesMean}
+use Rattle.world_laws.proofs.Leaving.{leaves_then}
 use Rattle.run_laws.proofs.Outside.{Outside, stands, outside-later}
 
 -- ---- the one op of a statement
@@ -45,11 +44,6 @@ means_op s n w what line regions r m =
     subst (λ x. LeavesWorld s.names (simple n op x w.vars) r) what_is (subst (λ o. LeavesWorld s.names (simple n o (out-Op o).what w.vars) r) (sym same) m.same)
 
 -- ---- one after another
-
-leaves_next : (names : Names) (r : Result (List Var) Fault) (q : Result World Fault) (f : List Var → Result (List Var) Fault) (g : World → Result World Fault) →
-    LeavesWorld names r q → ((w : World) → FitsNames names w → LeavesWorld names (f w.vars) (g w)) → LeavesWorld names (r >>= f) (q >>= g)
-leaves_next names r (Ok w) f g h k = subst (λ x. LeavesWorld names (x >>= f) (g w)) (sym h.0) (k w h.1)
-leaves_next names r (Err e) f g h k = ap (λ x. x >>= f) h
 
 -- In a region nothing else stands.
 only_simple : (t : List Row) (line : ℕ) (body : Body) → body_faults t within.Shared line body ≡ [] → IsSimple body
@@ -90,7 +84,7 @@ module _ (s : Scope) (n : ℕ) (w : World) (line : ℕ) (body : Body) {m : Count
     count = ap length more_ops_are ∙ ap suc all;
     leaves =
         subst (λ ops. LeavesWorld s.names (simple_block n ops w.vars) (program.simple_block w (more_stmts line body rest))) (sym more_ops_are)
-        (leaves_next s.names (simple n means.op (out-Op means.op).what w.vars) (program.simple w line body) _ _ means.same (λ v fits. (later v fits).leaves));
+        (leaves_then s.names (simple n means.op (out-Op means.op).what w.vars) (program.simple w line body) _ _ means.same (λ v fits. (later v fits).leaves));
   }
 
 module _ (simples : SimplesMean) where

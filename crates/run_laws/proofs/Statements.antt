@@ -1,5 +1,5 @@
 -- Lowered statements run as their sources do.
-use Rattle.std.proofs.Common.{◌≡◌, refl, sym, ap, ◌∙◌, subst, ℕ, zero, suc, ◌+◌, ◌≤◌, false, List, [], ◌∷◌, ◌++◌, length, All, Option, Ok, arith}
+use Rattle.std.proofs.Common.{◌≡◌, refl, sym, ap, ◌∙◌, subst, ℕ, ◌+◌, ◌≤◌, false, List, [], ◌∷◌, ◌++◌, length, All, Ok, arith}
 use Rattle.std.proofs.lemmas.List.Elements.{All-head, All-tail}
 use Rattle.std.specs.Prelude.{⊤}
 use mathlib.Core.Former.{Count}
@@ -17,7 +17,7 @@ use Rattle.ws_tree.specs.Grammatical.{IsSide, IsOptional, IsDesignator, IsPart, 
 use Rattle.ws_tree.specs.Grammatical.Within.{anywhere, in_where, in_forall}
 use Rattle.ws_types.specs.declared.types.Row.{Row}
 use Rattle.ws_sema.specs.declared.within.Within.{Within}
-use Rattle.ws_sema.specs.Statements.{is_masked, is_outside, allocations_faults, deallocations_faults, items_faults, with_active, block_faults, body_faults, stmts_faults}
+use Rattle.ws_sema.specs.Statements.{is_masked, allocations_faults, deallocations_faults, items_faults, with_active, block_faults, body_faults, stmts_faults}
 use Rattle.array_meaning.specs.declared.world.Source.{Source}
 use Rattle.array_meaning.specs.Program as program
 use Rattle.hlfir_ops.specs.Numbers.{numbers_of}
@@ -25,7 +25,9 @@ use Rattle.hlfir_meaning.specs.Statements as lowered
 use Rattle.lower_assign.specs.Scopes.{Scope}
 use Rattle.lower_assign.specs.Lowerings.{Lowering, done, ◌>>=◌ as ◌then◌}
 use Rattle.lower_constructs.specs.Modules.{statement, statements, statement_list}
-use Rattle.small_laws.proofs.NoFaults.{none_first, none_after, impossible, looked_into, allowed}
+use Rattle.small_laws.proofs.NoFaults.{none_first, none_after, impossible}
+use Rattle.kind_laws.proofs.Grammar.{loop_parts, shared_parts}
+use Rattle.kind_laws.proofs.Faultless.{loop_faultless, shared_faultless, allocate_faultless, deallocate_faultless, read_faultless}
 use Rattle.world_laws.specs.Meanings.{ListsMean, LeftsMean, SimplesMean}
 use Rattle.run_laws.proofs.InOrder.{same-then}
 use Rattle.run_laws.proofs.Loops.{FitsState}
@@ -34,28 +36,7 @@ use Rattle.run_laws.proofs.Outside.{Outside, outside-later}
 use Rattle.run_laws.proofs.Serial.{RunsAlike, same-moved, allocate_runs, deallocate_runs, read_runs}
 use Rattle.run_laws.proofs.Constructs.{assign_runs, where_runs, forall_runs, shared_runs, block_outside, loop_runs}
 
--- ---- what the grammar says of the parts of a statement
-
-pub record StandsIn {m : Count} (block : Stmts m) : Type 0 where
-  pub place : grammar.Within
-  pub room : ℕ
-  pub stands : AreStmts place room block
-
-loop_parts : (k : grammar.Within) (room line : ℕ) (x : List ℕ) (l u : Expr) (s : Option Expr) (c : _) (block : _) → IsBody k room line (Loop' x l u s c block) → IsSide l × IsSide u × IsOptional s × StandsIn block
-loop_parts anywhere zero line x l u s c block h = absurd h
-loop_parts anywhere (suc room) line x l u s c block h = (h.0, h.1, h.2, record { place = anywhere; room = room; stands = h.3 })
-loop_parts in_where zero line x l u s c block h = absurd h
-loop_parts in_where (suc room) line x l u s c block h = absurd h
-loop_parts in_forall zero line x l u s c block h = absurd h
-loop_parts in_forall (suc room) line x l u s c block h = absurd h
-
-shared_parts : (k : grammar.Within) (room line : ℕ) (c : _) (block : _) → IsBody k room line (Shared' c block) → StandsIn block
-shared_parts anywhere zero line c block h = absurd h
-shared_parts anywhere (suc room) line c block h = record { place = anywhere; room = room; stands = h }
-shared_parts in_where zero line c block h = absurd h
-shared_parts in_where (suc room) line c block h = absurd h
-shared_parts in_forall zero line c block h = absurd h
-shared_parts in_forall (suc room) line c block h = absurd h
+-- ---- what the grammar says of lists of ALLOCATE, DEALLOCATE and READ: that they are not empty, too
 
 allocated_parts : (k : grammar.Within) (room line : ℕ) (ps : List Part) → IsBody k room line (Allocate ps) → (1 ≤ length ps) × All IsPart ps
 allocated_parts anywhere room line ps h = h
@@ -139,25 +120,18 @@ module _ (lists : ListsMean) (lefts : LeftsMean) (simples : SimplesMean) (g : So
     body_runs k room t w line (Forall' is mask c block) s n outside free h f = forall_runs simples g k room t w line s n outside free is mask c block h f
     body_runs k room t w line (Loop' x l u e c block) s n outside free h f =
         let parts = loop_parts k room line x l u e c block h in
-        let inside = looked_into (is_masked w) line kind.Unsupported _ f in
-        let header = none_first _ _ inside in
-        let upper = none_first _ _ header in
-        let lower = none_first _ _ upper in
-        let variable = none_after _ _ (none_first _ _ lower) in
         let sides : IsSide l × IsSide u × IsOptional e = (parts.0, parts.1, parts.2) in
-        let fl = none_after _ _ lower in
-        let fu = none_after _ _ upper in
-        let fs = none_after _ _ header in
-        loop_runs lists g t w line s n outside x l u e c block sides fl fu fs variable
-        (block_runs parts.3.place parts.3.room (with_active t x) w block _ _ (block_outside lists g t w line s n outside x l u e c block sides fl fu fs variable) free parts.3.stands (none_after _ _ inside)).runs
+        let good = loop_faultless t w line x l u e c block f in
+        loop_runs lists g t w line s n outside x l u e c block sides good.in_first good.in_last good.in_step good.in_variable
+        (block_runs parts.3.place parts.3.room (with_active t x) w block _ _ (block_outside lists g t w line s n outside x l u e c block sides good.in_first good.in_last good.in_step good.in_variable) free parts.3.stands good.in_block).runs
     body_runs k room t w line (Allocate ps) s n outside free h f =
-        let parts = allocated_parts k room line ps h in allocated lists lefts g t line s n outside ps parts.0 parts.1 (none_after _ _ (looked_into (is_masked w) line kind.Unsupported _ f))
-    body_runs k room t w line (Deallocate xs) s n outside free h f = deallocated lists lefts g t line s n outside xs (deallocated_parts k room line xs h) (none_after _ _ (looked_into (is_masked w) line kind.Unsupported _ f))
+        let parts = allocated_parts k room line ps h in allocated lists lefts g t line s n outside ps parts.0 parts.1 (allocate_faultless t w line ps f)
+    body_runs k room t w line (Deallocate xs) s n outside free h f = deallocated lists lefts g t line s n outside xs (deallocated_parts k room line xs h) (deallocate_faultless t w line xs f)
     body_runs k room t w line (Read es) s n outside free h f =
-        let parts = read_parts k room line es h in read lists lefts g t line s n outside es parts.0 parts.1 (none_after _ _ (looked_into (is_masked w) line kind.Unsupported _ f))
+        let parts = read_parts k room line es h in read lists lefts g t line s n outside es parts.0 parts.1 (read_faultless t w line es f)
     body_runs k room t w line (Shared' c block) s n outside free h f =
         let parts = shared_parts k room line c block h in
-        shared_runs simples g parts.place parts.room t line s n outside c block parts.stands (allowed (is_outside w) line kind.Unsupported _ f)
+        shared_runs simples g parts.place parts.room t line s n outside c block parts.stands (shared_faultless t w line c block f)
     body_runs k room t w line Unsupported s n outside free h f = impossible line kind.Unsupported f
     body_runs k room t w line TooDeep' s n outside free h f = impossible line kind.OverLimit f
 

@@ -1,6 +1,5 @@
 -- Several scalars of one region: of a DO, and of an item of ALLOCATE.
-use Rattle.std.proofs.Common.{◌≡◌, refl, sym, ap, ◌∙◌, subst, ℕ, ◌+◌, List, [], ◌∷◌, ◌++◌, map, All, None, Ok, Err, ℤ, append-nil}
-use Rattle.std.proofs.lemmas.Grind.{flat_map-append}
+use Rattle.std.proofs.Common.{◌≡◌, refl, sym, ap, ◌∙◌, subst, ℕ, ◌+◌, List, [], ◌∷◌, ◌++◌, map, All, None, Ok, Err, ℤ}
 use Rattle.ws_base.specs.Outcomes.{Staged}
 use Rattle.ws_space.specs.Values.{is_among}
 use Rattle.ws_tree.specs.declared.expr.Expr.{Expr}
@@ -8,39 +7,26 @@ use Rattle.ws_types.specs.declared.types.Row.{Row}
 use Rattle.array_meaning.specs.declared.world.World.{World}
 use Rattle.hlfir_ops.specs.declared.what.What.TheVariants as what
 use Rattle.hlfir_ops.specs.declared.op.ValueId.{ValueId}
-use Rattle.hlfir_ops.specs.declared.op.Op.{Op, out-roll-Op}
-use Rattle.hlfir_ops.specs.Trees.{op_of}
+use Rattle.hlfir_ops.specs.declared.op.Op.{Op}
 use Rattle.hlfir_ops.specs.Numbers.{numbers_of}
 use Rattle.hlfir_meaning.specs.Environments.{scalar, Environment, of_variables, Yielded, yielding}
-use Rattle.hlfir_meaning.specs.Stage1.{subscripts_in, subscript_numbers, once, walk}
+use Rattle.hlfir_meaning.specs.Stage1.{subscript_numbers, once, walk}
 use Rattle.lower_assign.specs.declared.operand.Operand.{Operand}
 use Rattle.lower_assign.specs.Scopes.{Scope}
-use Rattle.lower_assign.specs.Lowerings.{Lowering, ◌>>=◌, acting}
+use Rattle.lower_assign.specs.Lowerings.{Lowering}
 use Rattle.lower_assign.specs.Lists.{values}
 use Rattle.lower_assign.specs.Statements.{all_yielded}
 use Rattle.value_laws.specs.Standing.{Goes}
 use Rattle.value_laws.proofs.Ops.{ending}
 use Rattle.world_laws.specs.Yields.{region, scalars_of}
 use Rattle.world_laws.specs.Meanings.{StandsOutside, IsIntegerScalar, ListsMean}
-use Rattle.run_laws.proofs.Listing.{IsList}
+use Rattle.world_laws.proofs.Listing.{IsList}
+use Rattle.world_laws.proofs.Yielding.{yield_of, yielded_ops, yield_subscripts}
 
 -- the region faults as the scalars do, or yields values that are these
 abbrev pub YieldsScalars : World → ℕ → List Op → Staged (List ℤ) → Type 0
 YieldsScalars w n ops (Ok zs) = (y : Yielded) × (walk (of_variables w.vars) (region n ops) ≡ Ok y) × (map (λ v. y.env v.number) y.parts ≡ map scalar zs)
 YieldsScalars w n ops (Err t) = walk (of_variables w.vars) (region n ops) ≡ Err t
-
-abbrev yield_of : Scope → List ValueId → Op
-yield_of s vs = op_of what.Yield s.line vs None []
-
-yielded_ops : (p : Lowering (List ValueId)) (s : Scope) (n : ℕ) → (all_yielded p s n).ops ≡ (p s n).ops ++ yield_of s (p s n).made ∷ []
-unfolding ◌>>=◌ acting
-yielded_ops p s n = refl
-
-no_subscripts : (s : Scope) (vs : List ValueId) → subscript_numbers (yield_of s vs ∷ []) ≡ []
-no_subscripts s vs = append-nil _ ∙ ap (λ f. subscripts_in f.what f.operands) (out-roll-Op (record { what = what.Yield; line = s.line; operands = vs; kind = None; regions = [] }))
-
-same_subscripts : (s : Scope) (vs : List ValueId) (ops : List Op) → subscript_numbers (ops ++ yield_of s vs ∷ []) ≡ subscript_numbers ops
-same_subscripts s vs ops = flat_map-append _ ops (yield_of s vs ∷ []) ∙ (ap (λ l. subscript_numbers ops ++ l) (no_subscripts s vs) ∙ append-nil (subscript_numbers ops))
 
 map-numbers : (env : Environment) (xs : List Operand) → map (λ v. env v.number) (map (λ x. x.value) xs) ≡ map (λ x. env x.value.number) xs
 map-numbers env [] = refl
@@ -66,4 +52,4 @@ list_yielded lists t line es p list s n w stands each =
     let vs = map (λ x. x.value) a.made in
     subst (λ l. YieldsScalars w n l (scalars_of w es)) (sym (yielded_ops p s n ∙ ap (λ b. b.ops ++ yield_of s b.made ∷ []) (list s n)))
     (walked s n w a.ops a.made (scalars_of w es)
-    (lists t line es s n w (subscript_numbers (a.ops ++ yield_of s vs ∷ [])) (of_variables w.vars) stands (λ k h. refl) each (λ v h g. ap (is_among v) (same_subscripts s vs a.ops))))
+    (lists t line es s n w (subscript_numbers (a.ops ++ yield_of s vs ∷ [])) (of_variables w.vars) stands (λ k h. refl) each (λ v h g. ap (is_among v) (yield_subscripts s vs a.ops))))

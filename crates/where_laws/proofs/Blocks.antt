@@ -11,6 +11,7 @@ use Rattle.ws_tree.specs.declared.stmt.Body.TheVariants.{Assign, Masked', Forall
 use Rattle.ws_tree.specs.declared.stmt.Else.{Else'}
 use Rattle.ws_tree.specs.Trees.{Stmts, end_stmts, more_stmts, Elses, end_elses, more_elses}
 use Rattle.ws_tree.specs.Grammatical.{in_where, IsSide, IsBody, AreStmts, AreElses}
+use Rattle.ws_tree.specs.Grammatical as grammar
 use Rattle.ws_types.specs.declared.types.Row.{Row}
 use Rattle.ws_types.specs.Expressions.{faults}
 use Rattle.ws_types.specs.Steps as source
@@ -25,11 +26,13 @@ use Rattle.lower_assign.specs.Lowerings.{done, ◌>>=◌}
 use Rattle.lower_constructs.specs.Modules.{statement, statements, elsewheres, elsewhere}
 use Rattle.kind_laws.proofs.NoFaults.{none_first, none_after, impossible}
 use Rattle.kind_laws.proofs.Sides.{sides_are_expressions}
+use Rattle.kind_laws.proofs.Grammar.{where_parts}
+use Rattle.kind_laws.proofs.Faultless.{where_faultless}
 use Rattle.world_laws.specs.Yields.{region}
 use Rattle.world_laws.specs.Meanings.{ValuesMean, LeftsMean}
 use Rattle.where_laws.proofs.Forms.{block_of, elsewheres_of, third_events, elsewhere-last, elsewhere-next}
 use Rattle.where_laws.proofs.Alike.{Alike, alike_nothing, alike_both, alike_masking}
-use Rattle.where_laws.proofs.WhereFacts.{TakesInWhere, where_parts, mask_known}
+use Rattle.where_laws.proofs.WhereFacts.{TakesInWhere, mask_known}
 use Rattle.where_laws.proofs.Regions.{InScope, region_scope, mask_stands}
 use Rattle.where_laws.proofs.Constructs.{later_scope, then_ops, OneAlike, is_more, where_op, masked_ops, only, last_ops, its_mask, block_number, its_block, next_ops, assign_alike, block_then, where_alike}
 
@@ -87,40 +90,39 @@ module _ (values : ValuesMean) (lefts : LeftsMean) (takes : TakesInWhere) (t : L
   mutual
     unfolding done
 
-    pub block_alike : {m : Count} (c : Control) (room at rank : ℕ) (s : Scope) (n : ℕ) (ss : Stmts m) → InScope t true s n → nat_eq rank 0 ≡ false → AreStmts in_where room ss →
+    pub block_alike : {m : Count} (c : Control) (place : grammar.Within) (room at rank : ℕ) (s : Scope) (n : ℕ) (ss : Stmts m) → InScope t true s n → nat_eq rank 0 ≡ false → AreStmts place room ss →
         block_faults t (within.Masked at (Some rank)) ss ≡ [] → Alike s.names (source.block c ss) (block_of c n (statements ss s n).ops)
-    block_alike c room at rank s n end_stmts h some g f = alike_nothing s.names
-    block_alike c room at rank s n (more_stmts line body rest) h some g f =
-        let one = inside_alike c room line at rank s n body h some g.0 (none_first _ _ f) in
+    block_alike c place room at rank s n end_stmts h some g f = alike_nothing s.names
+    block_alike c place room at rank s n (more_stmts line body rest) h some g f =
+        let one = inside_alike c place room line at rank s n body h some g.0 (none_first _ _ f) in
         let next = n + (op_numbers one.op + 0) in
         block_then values lefts takes t c s n (statement line body) (statements rest) (source.inside c line body) (source.block c rest) one
-        (block_alike c room at rank s next rest (later_scope t true s n next (omega arith) h) some g.1 (none_after _ _ f))
+        (block_alike c place room at rank s next rest (later_scope t true s n next (omega arith) h) some g.1 (none_after _ _ f))
 
-    inside_alike : (c : Control) (room line at rank : ℕ) (s : Scope) (n : ℕ) (body : Body) → InScope t true s n → nat_eq rank 0 ≡ false → IsBody in_where room line body →
+    inside_alike : (c : Control) (place : grammar.Within) (room line at rank : ℕ) (s : Scope) (n : ℕ) (body : Body) → InScope t true s n → nat_eq rank 0 ≡ false → IsBody place room line body →
         body_faults t (within.Masked at (Some rank)) line body ≡ [] → OneAlike s n c (statement line body) (source.inside c line body)
-    inside_alike c room line at rank s n (Assign l r) h some g f = assign_alike values lefts takes t c line at rank s n l r h some g.0 g.1 f
-    inside_alike c room line at rank s n (Masked' test i block j rest) h some g f =
-        let parts = where_parts in_where room line (Masked' test i block j rest) g in
-        let masks = none_first _ _ (none_first _ _ f) in
-        let fine = none_first _ _ masks in
-        let known = mask_known t line (Some rank) test fine (none_after _ _ masks) in
-        let blocks : block_faults t (within.Masked line (Some known.type.rank)) block ≡ [] = subst (λ o. block_faults t (within.Masked line (rank_of o)) block ≡ []) known.typed (none_after _ _ (none_first _ _ f)) in
-        let elses : elses_faults t line (Some known.type.rank) rest ≡ [] = subst (λ o. elses_faults t line (rank_of o) rest ≡ []) known.typed (none_after _ _ f) in
+    inside_alike c place room line at rank s n (Assign l r) h some g f = assign_alike values lefts takes t c line at rank s n l r h some g.0 g.1 f
+    inside_alike c place room line at rank s n (Masked' test i block j rest) h some g f =
+        let parts = where_parts place room line test i block j rest g in
+        let good = where_faultless t (within.Masked at (Some rank)) line test i block j rest f in
+        let known = mask_known t line (Some rank) test good.in_mask (none_after _ _ good.in_header) in
+        let blocks : block_faults t (within.Masked line (Some known.type.rank)) block ≡ [] = subst (λ o. block_faults t (within.Masked line (rank_of o)) block ≡ []) known.typed good.in_block in
+        let elses : elses_faults t line (Some known.type.rank) rest ≡ [] = subst (λ o. elses_faults t line (rank_of o) rest ≡ []) known.typed good.in_rest in
         record {
           op = where_op line test block rest s n;
           alone = masked_ops line s n (Masked' test i block j rest);
-          events = where_alike values lefts takes t true c line test block rest s n h parts.mask fine
-              (λ k r o g. block_alike (held k) parts.room line known.type.rank r o block g known.rank parts.block blocks)
-              (λ k r o g. subst (Alike r.names (source.otherwise (failed k) rest)) (third_is (failed k) rest r o) (elses_alike (failed k) parts.room line known.type.rank r o rest g known.rank parts.rest elses));
+          events = where_alike values lefts takes t true c line test block rest s n h parts.0 good.in_mask
+              (λ k r o g. block_alike (held k) parts.1.place parts.1.room line known.type.rank r o block g known.rank parts.1.stands blocks)
+              (λ k r o g. subst (Alike r.names (source.otherwise (failed k) rest)) (third_is (failed k) rest r o) (elses_alike (failed k) parts.2.room line known.type.rank r o rest g known.rank parts.2.stands elses));
         }
-    inside_alike c room line at rank s n (Forall' is test i ss) h some g f = impossible line kind.Unsupported f
-    inside_alike c room line at rank s n (Loop' x l u st i ss) h some g f = impossible line kind.Unsupported f
-    inside_alike c room line at rank s n (Allocate ps) h some g f = impossible line kind.Unsupported f
-    inside_alike c room line at rank s n (Deallocate xs) h some g f = impossible line kind.Unsupported f
-    inside_alike c room line at rank s n (Read es) h some g f = impossible line kind.Unsupported f
-    inside_alike c room line at rank s n (Shared' i ss) h some g f = impossible line kind.Unsupported f
-    inside_alike c room line at rank s n Unsupported h some g f = impossible line kind.Unsupported f
-    inside_alike c room line at rank s n TooDeep h some g f = impossible line kind.OverLimit f
+    inside_alike c place room line at rank s n (Forall' is test i ss) h some g f = impossible line kind.Unsupported f
+    inside_alike c place room line at rank s n (Loop' x l u st i ss) h some g f = impossible line kind.Unsupported f
+    inside_alike c place room line at rank s n (Allocate ps) h some g f = impossible line kind.Unsupported f
+    inside_alike c place room line at rank s n (Deallocate xs) h some g f = impossible line kind.Unsupported f
+    inside_alike c place room line at rank s n (Read es) h some g f = impossible line kind.Unsupported f
+    inside_alike c place room line at rank s n (Shared' i ss) h some g f = impossible line kind.Unsupported f
+    inside_alike c place room line at rank s n Unsupported h some g f = impossible line kind.Unsupported f
+    inside_alike c place room line at rank s n TooDeep h some g f = impossible line kind.OverLimit f
 
     pub elses_alike : {m : Count} (c : Control) (room at rank : ℕ) (s : Scope) (n : ℕ) (es : Elses m) → InScope t true s n → nat_eq rank 0 ≡ false → AreElses room es →
         elses_faults t at (Some rank) es ≡ [] → Alike s.names (source.otherwise c es) (elsewheres_of c n (elsewheres es s n).ops)
@@ -132,7 +134,7 @@ module _ (values : ValuesMean) (lefts : LeftsMean) (takes : TakesInWhere) (t : L
         let known = mask_known t line (Some rank) test fine (none_after _ _ masks) in
         let blocks : block_faults t (within.Masked line (Some known.type.rank)) block ≡ [] = subst (λ o. block_faults t (within.Masked line (rank_of o)) block ≡ []) known.typed (none_after _ _ here) in
         next_alike c line test block rest s n h g.0 fine
-        (λ k r o q. block_alike (held k) room line known.type.rank r o block q known.rank g.1 blocks)
+        (λ k r o q. block_alike (held k) in_where room line known.type.rank r o block q known.rank g.1 blocks)
         (λ k r o q. elses_alike (failed k) room at rank r o rest q some g.2 (none_after _ _ f))
     elses_alike c room at rank s n (more_elses (Else' line None i block) rest) h some g f =
-        last_alike c line (Number 0) block rest s n h (λ r o q. block_alike c room at rank r o block q some g.0 (none_first _ _ f))
+        last_alike c line (Number 0) block rest s n h (λ r o q. block_alike c in_where room at rank r o block q some g.0 (none_first _ _ f))

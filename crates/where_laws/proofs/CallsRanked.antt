@@ -6,7 +6,7 @@ use Rattle.ws_base.specs.Outcomes.{scalar_of, ◌>>=◌}
 use Rattle.ws_base.specs.Numbers.{default_half, reduction}
 use Rattle.ws_types.specs.declared.types.Typed.{Typed}
 use Rattle.ws_types.specs.declared.types.Arguments.{Arguments}
-use Rattle.ws_types.specs.Operations.{differ, with_argument, no_arguments, is_reduction, has_wrong_type, has_wrong_rank, call_gives_truth, call_type}
+use Rattle.ws_types.specs.Operations.{differ, with_argument, no_arguments, is_reduction, has_wrong_type, has_wrong_rank, call_type}
 use Rattle.array_meaning.specs.declared.term.Term.{Term}
 use Rattle.array_meaning.specs.declared.term.Term.TheVariants.{Scalar, Listed, Section', Unary', Binary', Call', Call}
 use Rattle.array_meaning.specs.Terms.{terms_open}
@@ -15,6 +15,8 @@ use Rattle.array_meaning.specs.Stage1.{with_scalar, scalars, elemental_on, calle
 use Rattle.array_meaning.proofs.Chains.{after_each}
 use Rattle.kind_laws.proofs.Arguments.{argued}
 use Rattle.kind_laws.proofs.TypeFacts.{same_type, chosen_type, not_chosen}
+use Rattle.kind_laws.proofs.NoFaults.{left_false, right_false}
+use Rattle.kind_laws.proofs.CallsMade.{call_result}
 use Rattle.where_laws.specs.Laws.{HaveRank}
 use Rattle.where_laws.proofs.Ranked.{HasRank, operands_ranked, lift, agree_first, agree_second}
 
@@ -29,31 +31,23 @@ rank_grows : (c : Arguments) (tys : List Typed) → c.rank ≤ (argued c tys).ra
 rank_grows c [] = omega arith
 rank_grows c (a ∷ tys) = let rest = rank_grows (with_argument c (Some a)) tys in omega (arith, rest)
 
-first_false : (b c : Bool) → (b || c) ≡ false → b ≡ false
-first_false true c h = h
-first_false false c h = refl
-
-second_false : (b c : Bool) → (b || c) ≡ false → c ≡ false
-second_false true c h = absurd (true≢false h)
-second_false false c h = h
-
 mixed_before : (c : Arguments) (tys : List Typed) → (argued c tys).mixed ≡ false → c.mixed ≡ false
 mixed_before c [] h = h
-mixed_before c (a ∷ tys) h = first_false c.mixed (differ c.rank a.rank) (mixed_before (with_argument c (Some a)) tys h)
+mixed_before c (a ∷ tys) h = left_false c.mixed (differ c.rank a.rank) (mixed_before (with_argument c (Some a)) tys h)
 
 -- a rank before that is not 0 is the last one
 agrees_after : (c : Arguments) (tys : List Typed) → (argued c tys).mixed ≡ false → 0 < c.rank → c.rank ≡ (argued c tys).rank
 agrees_after c [] h low = refl
 agrees_after c (a ∷ tys) h low =
     let next = with_argument c (Some a) in
-    let one : differ c.rank a.rank ≡ false = second_false c.mixed (differ c.rank a.rank) (mixed_before next tys h) in
+    let one : differ c.rank a.rank ≡ false = right_false c.mixed (differ c.rank a.rank) (mixed_before next tys h) in
     let same : c.rank ≡ next.rank = agree_first c.rank a.rank one low in
     same ∙ agrees_after next tys h (omega (arith, low, same))
 
 this_agrees : (c : Arguments) (a : Typed) (tys : List Typed) → (argued (with_argument c (Some a)) tys).mixed ≡ false → 0 < a.rank → a.rank ≡ (argued (with_argument c (Some a)) tys).rank
 this_agrees c a tys h low =
     let next = with_argument c (Some a) in
-    let one : differ c.rank a.rank ≡ false = second_false c.mixed (differ c.rank a.rank) (mixed_before next tys h) in
+    let one : differ c.rank a.rank ≡ false = right_false c.mixed (differ c.rank a.rank) (mixed_before next tys h) in
     let same : a.rank ≡ next.rank = agree_second c.rank a.rank one low in
     same ∙ agrees_after next tys h (omega (arith, low, same))
 
@@ -153,14 +147,11 @@ third_false false true z u h = absurd (true≢false h)
 third_false false false true u h = absurd (true≢false h)
 third_false false false false u h = refl
 
-result_type : CallWord → Arguments → Typed
-result_type w a = record { truth = call_gives_truth w a; rank = if is_reduction w then 0 else a.rank }
-
 call_rank : (w : CallWord) (a : Arguments) (ty : Typed) → call_type false w a ≡ Some ty → ((if is_reduction w then 0 else a.rank) ≡ ty.rank) × (has_wrong_rank w a ≡ false)
-unfolding call_type result_type
+unfolding call_type
 call_rank w a ty h = (
-  ap (λ x. x.rank) (same_type (result_type w a) ty (chosen_type (false || has_wrong_type w a || has_wrong_rank w a || not a.sound) (Some (result_type w a)) ty h)),
-  third_false false (has_wrong_type w a) (has_wrong_rank w a) (not a.sound) (not_chosen (false || has_wrong_type w a || has_wrong_rank w a || not a.sound) (Some (result_type w a)) ty h),
+  ap (λ x. x.rank) (same_type (call_result w a) ty (chosen_type (false || has_wrong_type w a || has_wrong_rank w a || not a.sound) (Some (call_result w a)) ty h)),
+  third_false false (has_wrong_type w a) (has_wrong_rank w a) (not a.sound) (not_chosen (false || has_wrong_type w a || has_wrong_rank w a || not a.sound) (Some (call_result w a)) ty h),
 )
 
 pub called_ranked : (w : CallWord) (tys : List Typed) (ts : List Term) (ty : Typed) → call_type false w (argued no_arguments tys) ≡ Some ty → EachRanked tys ts → IfOk (called w ts) (HasRank ty.rank)

@@ -12,8 +12,7 @@ pub mod Regions
 pub mod WhereFacts
 pub mod Constructs
 pub mod Blocks
-pub mod Variables
-pub mod Filling
+pub mod NewShapes
 pub mod Bounds
 pub mod Takes
 pub mod Moves

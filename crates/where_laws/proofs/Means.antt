@@ -2,7 +2,6 @@
 use Rattle.std.proofs.Common.{◌≡◌, refl, sym, ap, ◌∙◌, subst, ℕ, ◌+◌, false, List, [], ◌∷◌, ◌++◌, Some, None, Result, Ok, Err, arith, true≢false}
 use Rattle.std.proofs.lemmas.List.Elements.{All-nil}
 use Rattle.ws_base.specs.declared.fault.Fault.{Fault}
-use Rattle.ws_base.specs.declared.refusal.RefusalKind.TheVariants as kind
 use Rattle.ws_space.specs.declared.state.Var.{Var}
 use Rattle.ws_space.specs.Masks.{everywhere, held, failed}
 use Rattle.ws_tree.specs.declared.expr.Expr.{Expr}
@@ -32,9 +31,12 @@ use Rattle.lower_assign.specs.Lowerings.{regions_from}
 use Rattle.lower_assign.specs.Values.{value}
 use Rattle.lower_assign.specs.Statements.{yielded, left}
 use Rattle.lower_constructs.specs.Modules.{statement}
-use Rattle.kind_laws.proofs.NoFaults.{none_first, none_after, looked_into}
+use Rattle.kind_laws.proofs.NoFaults.{none_first, none_after}
 use Rattle.kind_laws.proofs.Sides.{sides_are_expressions}
+use Rattle.kind_laws.proofs.Grammar.{where_parts}
+use Rattle.kind_laws.proofs.Faultless.{where_faultless}
 use Rattle.world_laws.specs.Meanings.{StandsOutside, ValuesMean, LeftsMean, LeavesWorld, MeansStatement, SimpleMeans}
+use Rattle.world_laws.proofs.Fitting.{as_many}
 use Rattle.where_laws.specs.Laws.{IsAssignmentOrWhere, AssignmentsAndWheresMean}
 use Rattle.where_laws.proofs.Same.{Same}
 use Rattle.where_laws.proofs.Places.{IsPlaced}
@@ -42,8 +44,8 @@ use Rattle.where_laws.proofs.Assigned.{Whole, steps_same}
 use Rattle.where_laws.proofs.Plain.{plain_same}
 use Rattle.where_laws.proofs.Forms.{inside-assign}
 use Rattle.where_laws.proofs.Alike.{Alike, steps_stand}
-use Rattle.where_laws.proofs.Regions.{InScope, declares_length, assignment_stands}
-use Rattle.where_laws.proofs.WhereFacts.{where_parts, mask_known}
+use Rattle.where_laws.proofs.Regions.{InScope, assignment_stands}
+use Rattle.where_laws.proofs.WhereFacts.{mask_known}
 use Rattle.where_laws.proofs.Constructs.{its_realloc, assign_ops, where_op, masked_ops, where_alike}
 use Rattle.where_laws.proofs.Blocks.{third_is, block_alike, elses_alike}
 use Rattle.where_laws.proofs.Takes.{takes_in_where}
@@ -69,7 +71,7 @@ module _ (w : What) (line : ℕ) (rs : List Region) (n : ℕ) (vars : List Var) 
 module _ (values : ValuesMean) (lefts : LeftsMean) where
   in_scope : (t : List Row) (s : Scope) (w : World) (n : ℕ) → StandsOutside t s w n → s.masked ≡ false → InScope t false s n
   in_scope t s w n h m =
-      let many = declares_length 0 s.names.variables w.vars h.world.variables in
+      let many = as_many 0 s.names.variables w.vars h.world.variables in
       let few = h.declared in
       record { knows = h.knows; no_index = h.no_index; masked = m; declared = omega (arith, many, few) }
 
@@ -120,17 +122,15 @@ module _ (values : ValuesMean) (lefts : LeftsMean) where
   where_means (Assign l r) is t in_block line s n w place room h m out g f = assignment_means l r t in_block line s n w place room h m out g f
   where_means (Masked' test i block j rest) is t in_block line s n w place room h m out g f =
       let body = Masked' test i block j rest in
-      let parts = where_parts place room line body g in
-      let inner = looked_into (is_inside in_block) line kind.Unsupported _ f in
-      let masks = none_first _ _ (none_first _ _ inner) in
-      let fine = none_first _ _ masks in
-      let known = mask_known t line (enclosing_rank in_block) test fine (none_after _ _ masks) in
-      let blocks : block_faults t (within.Masked line (Some known.type.rank)) block ≡ [] = subst (λ o. block_faults t (within.Masked line (rank_of o)) block ≡ []) known.typed (none_after _ _ (none_first _ _ inner)) in
-      let elses : elses_faults t line (Some known.type.rank) rest ≡ [] = subst (λ o. elses_faults t line (rank_of o) rest ≡ []) known.typed (none_after _ _ inner) in
+      let parts = where_parts place room line test i block j rest g in
+      let good = where_faultless t in_block line test i block j rest f in
+      let known = mask_known t line (enclosing_rank in_block) test good.in_mask (none_after _ _ good.in_header) in
+      let blocks : block_faults t (within.Masked line (Some known.type.rank)) block ≡ [] = subst (λ o. block_faults t (within.Masked line (rank_of o)) block ≡ []) known.typed good.in_block in
+      let elses : elses_faults t line (Some known.type.rank) rest ≡ [] = subst (λ o. elses_faults t line (rank_of o) rest ≡ []) known.typed good.in_rest in
       let o = where_op line test block rest s n in
-      let events = where_alike values lefts takes_in_where t false everywhere line test block rest s n (in_scope t s w n h m) parts.mask fine
-      (λ k r p q. block_alike values lefts takes_in_where t (held k) parts.room line known.type.rank r p block q known.rank parts.block blocks)
-      (λ k r p q. subst (Alike r.names (source.otherwise (failed k) rest)) (third_is (failed k) rest r p) (elses_alike values lefts takes_in_where t (failed k) parts.room line known.type.rank r p rest q known.rank parts.rest elses)) in
+      let events = where_alike values lefts takes_in_where t false everywhere line test block rest s n (in_scope t s w n h m) parts.0 good.in_mask
+      (λ k r p q. block_alike values lefts takes_in_where t (held k) parts.1.place parts.1.room line known.type.rank r p block q known.rank parts.1.stands blocks)
+      (λ k r p q. subst (Alike r.names (source.otherwise (failed k) rest)) (third_is (failed k) rest r p) (elses_alike values lefts takes_in_where t (failed k) parts.2.room line known.type.rank r p rest q known.rank parts.2.stands elses)) in
       let stands = steps_stand s.names [] [] (source.where_events line body) (ops.where_events n o) tt (events 0).0 in
       let same = steps_same s.names w [] (source.where_steps line body) (ops.steps_of n o) h.world (All-nil IsPlaced) stands in
       record {

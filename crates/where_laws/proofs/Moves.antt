@@ -35,15 +35,15 @@ use Rattle.kind_laws.proofs.Sides as sides
 use Rattle.kind_laws.proofs.TypedExpressions.{types_are_known}
 use Rattle.world_laws.specs.Worlds.{FitsNames}
 use Rattle.value_laws.specs.Variables.{Fits}
+use Rattle.world_laws.proofs.Fitting.{DeclaredAt, state_fits, takes_what_fits}
 use Rattle.where_laws.proofs.Places.{HaveShape}
 use Rattle.where_laws.specs.Steps.{MayMove, MayTake, TakesWell}
 use Rattle.where_laws.specs.Laws.{HaveRank}
-use Rattle.where_laws.proofs.Variables.{FitsOne, state_fits, fits_again}
-use Rattle.where_laws.proofs.Filling.{moved_fits, bare_keeps}
 use Rattle.where_laws.proofs.Bounds.{bounds_length}
 use Rattle.where_laws.proofs.Targets.{moved_conform}
 use Rattle.where_laws.proofs.TermsRanked.{terms_ranked}
 use Rattle.where_laws.proofs.Takes.{LeftKnown, left_known, named_known, may_take, known_target, entry_rank, no_part, no_target, sides_rank, same_rank}
+use Rattle.where_laws.proofs.NewShapes.{moved_fits, bare_keeps}
 
 -- nothing has a dimension where the left side is a scalar
 none_ranked : (left rank : ℕ) (es : List Extents) → left ≡ 0 → (nat_lt 0 rank && not (nat_eq left rank)) ≡ false → HaveRank rank es → es ≡ []
@@ -105,14 +105,14 @@ module _ (t : List Row) (line : ℕ) (within : Within) (right : Expr) (s : Scope
     abbrev held : VarState
     held = state_of w.vars x
 
-    one : FitsOne known.declare held
-    one = state_fits x known.declare 0 s.names.variables w.vars fits.variables known.found
+    one : DeclaredAt 0 w.vars x known.declare
+    one = state_fits s.names w x known.declare fits known.found
 
     may_move : is_allocatable (Some known.declare.kind) ≡ true → MayMove s.names w false (Named x) right r held
     may_move alloc = record {
       outside = refl;
-      fits = λ e xs shape. fits_again s.names w (Named x) known.declare (moved (new_bounds w right e) held e xs) fits known.found
-          (moved_kind w right r known.entry right_type agree walked have held e xs shape known.declare.kind alloc known.fits one.state one.narrow);
+      fits = λ e xs shape. takes_what_fits s.names w x known.declare (moved (new_bounds w right e) held e xs) fits known.found
+          (moved_kind w right r known.entry right_type agree walked have held e xs shape known.declare.kind alloc known.fits one.fits one.narrow);
     }
 
     allocatable : is_name_in w.allocatables x ≡ true → is_allocatable (Some known.declare.kind) ≡ true

@@ -1,12 +1,11 @@
 -- Ranks of what names give.
-use Rattle.std.proofs.Common.{◌≡◌, refl, sym, ap, ◌∙◌, subst, ℕ, suc, ◌<◌, ◌≤◌, Bool, true, false, List, [], ◌∷◌, length, Option, Some, None, IfOk, ℤ, pos, bytes_eq, if◌then◌else◌}
+use Rattle.std.proofs.Common.{◌≡◌, sym, ap, ◌∙◌, subst, ℕ, ◌<◌, ◌≤◌, Bool, true, false, List, [], ◌∷◌, length, Option, Some, None, IfOk, ℤ, pos}
 use Rattle.std.proofs.lemmas.List.{length-map}
 use Rattle.std.proofs.lemmas.List.Elements.{All-nil, All-cons}
 use Rattle.ws_space.specs.declared.shape.Dim.{Dim}
 use Rattle.ws_space.specs.declared.state.ArrayValue.{ArrayValue}
 use Rattle.ws_space.specs.declared.state.VarState.{VarState}
 use Rattle.ws_space.specs.declared.state.VarState.TheVariants as state
-use Rattle.ws_space.specs.declared.state.Var.{Var}
 use Rattle.ws_space.specs.Shapes.{Extents, dims, extents_of}
 use Rattle.ws_space.specs.Values.{Name, state_of}
 use Rattle.ws_types.specs.declared.types.Entry.{Entry}
@@ -25,17 +24,15 @@ use Rattle.array_meaning.specs.Stage2.{operands, array_operand}
 use Rattle.hlfir_ops.specs.declared.kinds.ValueKind.{ValueKind}
 use Rattle.hlfir_ops.specs.declared.kinds.ValueKind.TheVariants as kind
 use Rattle.hlfir_ops.specs.RulesValues.{rank_of}
-use Rattle.lower_assign.specs.declared.names.Variable.{Variable}
-use Rattle.lower_assign.specs.References.{variable_of}
 use Rattle.lower_assign.specs.Scopes.{Scope, index_of}
 use Rattle.kind_laws.specs.Standing.{Knows, FitsEntry, NameIsKnown, EntryIsKnown}
 use Rattle.kind_laws.proofs.TypeFacts.{same_type, no_type}
 use Rattle.value_laws.specs.Variables.{Fits}
 use Rattle.value_laws.proofs.Names.{whole_operands}
-use Rattle.world_laws.specs.Worlds.{FitDeclares, FitsNames, ConstantFits}
+use Rattle.world_laws.specs.Worlds.{FitsNames, ConstantFits}
+use Rattle.world_laws.proofs.Fitting.{state_fits, absent_state}
+use Rattle.world_laws.proofs.Filling.{dims_length}
 use Rattle.where_laws.specs.Laws.{HaveRank}
-use Rattle.where_laws.proofs.Variables.{state_fits}
-use Rattle.where_laws.proofs.Filling.{dims_length}
 use Rattle.where_laws.proofs.Ranked.{HasRank}
 
 -- ---- sections
@@ -78,19 +75,6 @@ variable_ranked k e (state.Scalar z) h fits few = scalar_rank k e z h fits
 variable_ranked k e (state.Array a) h fits few = let d = array_dims k e a h fits few in whole_ranked a e.rank d.0 d.1
 variable_ranked k e (state.Unallocated r) h fits few = tt
 
--- what no declare names holds nothing
-absent_at : (b : Bool) (e : Variable) (es : List Variable) (v : Var) (vs : List Var) (x : Name) → (if b then Some e.declare else variable_of es x) ≡ None → (variable_of es x ≡ None → state_of vs x ≡ state.Scalar (pos 0)) →
-    (if b then v.state else state_of vs x) ≡ state.Scalar (pos 0)
-absent_at true e es v vs x h rest = let f : ⊥ = cc in absurd f
-absent_at false e es v vs x h rest = rest h
-
-absent_state : (n : ℕ) (es : List Variable) (vs : List Var) (x : Name) → FitDeclares n es vs → variable_of es x ≡ None → state_of vs x ≡ state.Scalar (pos 0)
-absent_state n [] [] x h is = refl
-absent_state n [] (v ∷ vs) x h is = absurd h
-absent_state n (e ∷ es) [] x h is = absurd h
-absent_state n (e ∷ es) (v ∷ vs) x h is =
-    absent_at (bytes_eq v.name x) e es v vs x (ap (λ y. if bytes_eq y x then Some e.declare else variable_of es x) h.1.name ∙ is) (absent_state (suc n) es vs x h.2)
-
 -- ---- names
 
 module _ (s : Scope) (w : World) (x : Name) (no_index : s.indexes ≡ []) (fits : FitsNames s.names w) where
@@ -108,11 +92,11 @@ module _ (s : Scope) (w : World) (x : Name) (no_index : s.indexes ≡ []) (fits 
       let bare = absent_state 0 s.names.variables w.vars x fits.variables h.0 in
       record { named = constant_scalar (constant_of w.constants x) e bare h.1; dims = λ a is. let z : state.Scalar (pos 0) ≡ state.Array a = sym bare ∙ is in let f : ⊥ = cc in absurd f }
   entry_ranked false e h =
-      let one = state_fits x h.0 0 s.names.variables w.vars fits.variables h.1 in
+      let one = state_fits s.names w x h.0 fits h.1 in
       let constant = subst (ConstantFits s.names w x) h.1 (fits.constants x) in
       record {
-        named = subst (λ o. IfOk (named o (state_of w.vars x)) (HasRank e.rank)) (sym constant) (variable_ranked h.0.kind e (state_of w.vars x) h.2 one.state one.narrow);
-        dims = λ a is. (array_dims h.0.kind e a h.2 (subst (Fits h.0.kind) is one.state) one.narrow).0;
+        named = subst (λ o. IfOk (named o (state_of w.vars x)) (HasRank e.rank)) (sym constant) (variable_ranked h.0.kind e (state_of w.vars x) h.2 one.fits one.narrow);
+        dims = λ a is. (array_dims h.0.kind e a h.2 (subst (Fits h.0.kind) is one.fits) one.narrow).0;
       }
 
   standing_ranked : (st : Option Standing) (ty : Typed) → NameIsKnown s x st → name_type st ≡ Some ty → NameRanked ty.rank

@@ -1,7 +1,6 @@
 -- Regions of lowered statements: what each yields, and its number.
-use Rattle.std.proofs.Common.{◌≡◌, refl, sym, ap, ◌∙◌, subst, ℕ, suc, ◌+◌, ◌≤◌, Bool, false, not, ◌&&◌, ◌||◌, List, [], ◌∷◌, length, arith}
+use Rattle.std.proofs.Common.{◌≡◌, refl, sym, ap, ◌∙◌, subst, ℕ, ◌+◌, ◌≤◌, Bool, false, not, ◌&&◌, ◌||◌, List, [], ◌∷◌, length, arith}
 use Rattle.std.specs.Prelude.{⊤}
-use Rattle.ws_space.specs.declared.state.Var.{Var}
 use Rattle.ws_space.specs.Masks.{Control}
 use Rattle.ws_tree.specs.declared.expr.Expr.{Expr}
 use Rattle.ws_tree.specs.Grammatical.{IsExpr, IsDesignator}
@@ -14,29 +13,23 @@ use Rattle.array_meaning.specs.Assign.{target}
 use Rattle.hlfir_ops.specs.declared.what.What.{What}
 use Rattle.hlfir_ops.specs.declared.what.What.TheVariants as what
 use Rattle.hlfir_ops.specs.declared.op.Op.{Op}
-use Rattle.hlfir_ops.specs.declared.op.Region.{out-Region, out-roll-Region}
+use Rattle.hlfir_ops.specs.declared.op.Region.{out-Region}
 use Rattle.hlfir_ops.specs.Trees.{region_of}
 use Rattle.hlfir_ops.specs.Numbers.{names_in, numbers_of}
 use Rattle.hlfir_ops.specs.Built.{is_where}
 use Rattle.hlfir_meaning.specs.Steps as ops
-use Rattle.lower_assign.specs.declared.names.Variable.{Variable}
 use Rattle.lower_assign.specs.Scopes.{Scope, inside, with_indexes}
 use Rattle.lower_assign.specs.Lowerings.{Lowering, scoped, regions_from, ◌>>=◌}
 use Rattle.lower_assign.specs.Values.{value}
 use Rattle.lower_assign.specs.Statements.{yielded, left, left_of, is_whole_allocatable}
 use Rattle.kind_laws.specs.Standing.{Knows}
 use Rattle.kind_laws.proofs.ScopesKnown.{inside_known}
-use Rattle.world_laws.specs.Worlds.{FitsNames, FitDeclares}
+use Rattle.kind_laws.proofs.Ends.{ops-region_of}
+use Rattle.world_laws.specs.Worlds.{FitsNames}
 use Rattle.world_laws.specs.Yields.{region, Yields, Reaches}
 use Rattle.world_laws.specs.Meanings.{StandsOutside, ValuesMean, LeftsMean}
+use Rattle.world_laws.proofs.Fitting.{as_many}
 use Rattle.where_laws.specs.Steps.{MaskStands, AssignmentStands, TakesWell}
-
--- as many variables as declares
-pub declares_length : (n : ℕ) (ds : List Variable) (vs : List Var) → FitDeclares n ds vs → length vs ≡ length ds
-declares_length n [] [] h = refl
-declares_length n [] (v ∷ vs) h = absurd h
-declares_length n (d ∷ ds) [] h = absurd h
-declares_length n (d ∷ ds) (v ∷ vs) h = ap suc (declares_length (suc n) ds vs h.2)
 
 -- outside FORALL; in a WHERE where this is true; all declares have numbers below this one
 pub record InScope (t : List Row) (b : Bool) (s : Scope) (n : ℕ) : Type 0 where
@@ -47,7 +40,7 @@ pub record InScope (t : List Row) (b : Bool) (s : Scope) (n : ℕ) : Type 0 wher
 
 pub stands_outside : (t : List Row) (b : Bool) (s : Scope) (n : ℕ) (w : World) → InScope t b s n → FitsNames s.names w → StandsOutside t s w n
 stands_outside t b s n w h fits =
-    let many = declares_length 0 s.names.variables w.vars fits.variables in
+    let many = as_many 0 s.names.variables w.vars fits.variables in
     let few = h.declared in
     record { knows = h.knows; no_index = h.no_index; world = fits; declared = omega (arith, many, few) }
 
@@ -62,16 +55,13 @@ region_scope t b c s n w line k m o none later around h = record {
 
 -- ---- the regions of an assignment
 
-region_ops : (ops : List Op) → (out-Region (region_of ops)).ops ≡ ops
-region_ops ops = ap (λ r. r.ops) (out-roll-Region (record { ops = ops }))
-
 made_of : Control → ℕ → Bool → ℕ → List Op → List Op → ops.Assignment
 made_of c line realloc n first second = record { line = line; realloc = realloc; right = region n first; left = region (numbers_of first + n) second; under = c }
 
 made-of : (c : Control) (line : ℕ) (realloc : Bool) (n : ℕ) (first second : List Op) → ops.assignment_of c line realloc n (region_of first ∷ region_of second ∷ []) ≡ made_of c line realloc n first second
 unfolding made_of
 made-of c line realloc n first second =
-    ap (λ l. made_of c line realloc n l (out-Region (region_of second)).ops) (region_ops first) ∙ ap (λ l. made_of c line realloc n first l) (region_ops second)
+    ap (λ l. made_of c line realloc n l (out-Region (region_of second)).ops) (ops-region_of first) ∙ ap (λ l. made_of c line realloc n first l) (ops-region_of second)
 
 -- ---- what regions yield
 

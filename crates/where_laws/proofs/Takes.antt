@@ -39,10 +39,11 @@ use Rattle.kind_laws.proofs.NoFaults.{none_first, none_after, not_broken, left_f
 use Rattle.kind_laws.proofs.ScopesKnown.{entry_variable}
 use Rattle.kind_laws.proofs.Sides as sides
 use Rattle.world_laws.specs.Worlds.{FitsNames}
+use Rattle.world_laws.proofs.Fitting.{DeclaredAt, state_fits, takes_what_fits}
+use Rattle.world_laws.proofs.Filling.{filled_fits}
 use Rattle.where_laws.specs.Steps.{MayFill, MayTake}
-use Rattle.where_laws.proofs.Variables.{FitsOne, state_fits, fits_again}
-use Rattle.where_laws.proofs.Filling.{IsScalar, filled_fits, scalar_or_array}
 use Rattle.where_laws.proofs.WhereFacts.{TakesInWhere}
+use Rattle.where_laws.proofs.NewShapes.{IsScalar, scalar_or_array}
 
 -- ---- the variable of a left side
 
@@ -72,8 +73,8 @@ module _ (t : List Row) (names : Names) (w : World) (in_where : Bool) (left : Ex
   abbrev held : VarState
   held = state_of w.vars (target_name left)
 
-  one : FitsOne k.declare held
-  one = state_fits (target_name left) k.declare 0 names.variables w.vars fits.variables k.found
+  one : DeclaredAt 0 w.vars (target_name left) k.declare
+  one = state_fits names w (target_name left) k.declare fits k.found
 
   -- where it is no scalar, or all is scalar
   abbrev ScalarAlone : Type 0
@@ -87,8 +88,8 @@ module _ (t : List Row) (names : Names) (w : World) (in_where : Bool) (left : Ex
   may_fill q sel alone = record {
     array = sel.0;
     of = sel.1;
-    fits = λ xs. fits_again names w left k.declare (kept (dims sel.0.shape) xs) fits k.found (filled_fits k.declare.kind held sel.0 xs one.narrow one.state sel.2);
-    rank = ranks sel.0 (scalar_or_array k.declare.kind held sel.0 one.state sel.2) alone;
+    fits = λ xs. takes_what_fits names w (target_name left) k.declare (kept (dims sel.0.shape) xs) fits k.found (filled_fits k.declare.kind held sel.0 xs one.narrow one.fits sel.2);
+    rank = ranks sel.0 (scalar_or_array k.declare.kind held sel.0 one.fits sel.2) alone;
   }
 
   pub may_take : (right : Expr) (q : Target) → Selects held q → ScalarAlone → MayTake names w in_where left right r q

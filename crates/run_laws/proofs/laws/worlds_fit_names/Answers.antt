@@ -1,4 +1,4 @@
-use Rattle.run_laws.proofs.Fitting.{takes_state}
+use Rattle.world_laws.proofs.Fitting.{takes_state}
 use Rattle.run_laws.proofs.Opening.{opening_fits}
 use Rattle.run_laws.proofs.laws.worlds_fit_names.Goals as goal
 

@@ -1,4 +1,4 @@
--- The three expressions of an index are lowered as one list of values.
+-- The three expressions of a DO or of an index are lowered as one list of values.
 use Rattle.std.proofs.Common.{◌≡◌, refl, sym, ap, ◌∙◌, ℕ, ◌+◌, List, [], ◌∷◌, ◌++◌, map, Option, Some, None, append-nil}
 use Rattle.ws_tree.specs.declared.expr.Expr.{Expr}
 use Rattle.ws_tree.specs.declared.expr.Expr.TheVariants.{Number}
@@ -11,14 +11,14 @@ use Rattle.lower_assign.specs.Values.{value}
 use Rattle.lower_assign.specs.Lists.{values, stride}
 use Rattle.lower_constructs.specs.Modules.{triple}
 
-abbrev number_of : Operand → ValueId
+abbrev pub number_of : Operand → ValueId
 number_of x = x.value
 
 -- what is left of a list of expressions after the first one
-abbrev joined : Lowered Operand → Lowered (List Operand) → Lowered (List Operand)
+abbrev pub joined : Lowered Operand → Lowered (List Operand) → Lowered (List Operand)
 joined a b = record { ops = a.ops ++ b.ops; made = a.made ∷ b.made }
 
-values-cons : (e : Expr) (es : List Expr) (s : Scope) (n : ℕ) → values (e ∷ es) s n ≡ joined (value e s n) (values es s (n + numbers_of (value e s n).ops))
+pub values-cons : (e : Expr) (es : List Expr) (s : Scope) (n : ℕ) → values (e ∷ es) s n ≡ joined (value e s n) (values es s (n + numbers_of (value e s n).ops))
 unfolding values done ◌>>=◌
 values-cons e es s n =
     let a = value e s n in let b = values es s (n + numbers_of a.ops) in
@@ -30,7 +30,7 @@ values-cons e es s n =
 abbrev pub IsList : Lowering (List ValueId) → List Expr → Type 0
 IsList p es = (s : Scope) (n : ℕ) → p s n ≡ record { ops = (values es s n).ops; made = map number_of (values es s n).made }
 
-abbrev numbers : Lowered (List Operand) → Lowered (List ValueId)
+abbrev pub numbers : Lowered (List Operand) → Lowered (List ValueId)
 numbers a = record { ops = a.ops; made = map number_of a.made }
 
 -- an omitted stride is 1

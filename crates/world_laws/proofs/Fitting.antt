@@ -1,12 +1,13 @@
--- A world in which a variable takes a state that fits its declare fits the names again.
-use Rattle.std.proofs.Common.{◌≡◌, refl, sym, ap, ◌∙◌, subst, ℕ, suc, ◌+◌, ◌<◌, ◌≤◌, Bool, true, false, List, [], ◌∷◌, length, Some, bytes_eq, if◌then◌else◌, arith}
+-- What the declares of a source say of a world that fits its names, also after one variable takes a new state.
+use Rattle.std.proofs.Common.{◌≡◌, refl, sym, ap, ◌∙◌, subst, ℕ, suc, ◌+◌, ◌<◌, ◌≤◌, Bool, true, false, List, [], ◌∷◌, length, Option, Some, None, pos, bytes_eq, if◌then◌else◌, arith}
 use Rattle.std.proofs.lemmas.Slice.Eq.{bytes_eq-Decides}
 use Rattle.ws_space.specs.declared.state.VarState.{VarState}
+use Rattle.ws_space.specs.declared.state.VarState.TheVariants as state
 use Rattle.ws_space.specs.declared.state.Var.{Var}
 use Rattle.ws_space.specs.Values.{Name, state_of, with_state}
 use Rattle.ws_space.specs.Replace.{is_logical}
 use Rattle.hlfir_ops.specs.RulesValues.{rank_of}
-use Rattle.hlfir_meaning.specs.Environments.{variable, of_variables}
+use Rattle.hlfir_meaning.specs.Environments.{variable, Environment, of_variables}
 use Rattle.array_meaning.specs.declared.world.World.{World}
 use Rattle.array_meaning.specs.Assign.{with_vars}
 use Rattle.lower_assign.specs.declared.names.Names.{Names}
@@ -82,6 +83,27 @@ as_many n [] (v ∷ vs) h = absurd h
 as_many n (e ∷ ds) [] h = absurd h
 as_many n (e ∷ ds) (v ∷ vs) h = ap suc (as_many (suc n) ds vs h.2)
 
+-- in an environment that begins with the variables, it refers to this one
+module _ (vs : List Var) (x : Name) (d : Operand) (h : DeclaredAt 0 vs x d) where
+  pub is_below : d.value.number < length vs
+  is_below = omega (arith, h.number, h.small)
+
+  pub refers : (env : Environment) → ((k : ℕ) → k < length vs → env k ≡ of_variables vs k) → env d.value.number ≡ variable h.var
+  refers env same = same d.value.number is_below ∙ (ap (of_variables vs) (let e : d.value.number ≡ h.place = omega (arith, h.number) in e) ∙ h.found)
+
+-- what no declare names holds nothing
+absent_at : (b : Bool) (e : Variable) (es : List Variable) (v : Var) (vs : List Var) (x : Name) → (if b then Some e.declare else variable_of es x) ≡ None → (variable_of es x ≡ None → state_of vs x ≡ state.Scalar (pos 0)) →
+    (if b then v.state else state_of vs x) ≡ state.Scalar (pos 0)
+absent_at true e es v vs x h rest = let f : ⊥ = cc in absurd f
+absent_at false e es v vs x h rest = rest h
+
+pub absent_state : (n : ℕ) (es : List Variable) (vs : List Var) (x : Name) → FitDeclares n es vs → variable_of es x ≡ None → state_of vs x ≡ state.Scalar (pos 0)
+absent_state n [] [] x h is = refl
+absent_state n [] (v ∷ vs) x h is = absurd h
+absent_state n (e ∷ es) [] x h is = absurd h
+absent_state n (e ∷ es) (v ∷ vs) x h is =
+    absent_at (bytes_eq v.name x) e es v vs x (ap (λ y. if bytes_eq y x then Some e.declare else variable_of es x) h.1.name ∙ is) (absent_state (suc n) es vs x h.2)
+
 -- ---- a new state
 
 abbrev pub FitsWhereDeclared : List Variable → Name → VarState → Type 0
@@ -112,3 +134,10 @@ takes_state names w x s h f = record {
 
 pub state_fits : (names : Names) (w : World) (x : Name) (d : Operand) → FitsNames names w → variable_of names.variables x ≡ Some d → DeclaredAt 0 w.vars x d
 state_fits names w x d h is = declared_at 0 names.variables w.vars x d h.variables is
+
+same_declare : (a b : Operand) (o : Option Operand) → o ≡ Some a → o ≡ Some b → a ≡ b
+same_declare a b o h g = let same : Some a ≡ Some b = sym h ∙ g in cc
+
+-- where its declare is known
+pub takes_what_fits : (names : Names) (w : World) (x : Name) (d : Operand) (s : VarState) → FitsNames names w → variable_of names.variables x ≡ Some d → Fits d.kind s → FitsNames names (with_vars w (with_state w.vars x s))
+takes_what_fits names w x d s h is fits = takes_state names w x s h (λ e found. subst (λ o. Fits o.kind s) (same_declare d e (variable_of names.variables x) is found) fits)

@@ -1,0 +1,5 @@
+pub mod Fitting
+pub mod Filling
+pub mod Listing
+pub mod Leaving
+pub mod Yielding
