@@ -24,10 +24,10 @@ use Rattle.array_meaning.specs.Forall as source
 use Rattle.array_meaning.specs.Forall.{Combination}
 use Rattle.array_meaning.specs.Stage1 as once
 use Rattle.hlfir_meaning.specs.Environments.{variable, Environment}
-use Rattle.lower_assign.specs.declared.operand.Operand.{Operand}
-use Rattle.lower_assign.specs.Scopes.{Scope}
-use Rattle.lower_assign.specs.Lowerings.{scoped, ◌>>=◌ as ◌then◌}
-use Rattle.lower_assign.specs.References.{variable_of, or_nothing, declare_of, boxed, reference, first_name, dimension_in, bound_word, bound_or_size, is_allocated, inquiry_of, inquiry_or_nothing, inquiry}
+use Rattle.lower_values.specs.declared.operand.Operand.{Operand}
+use Rattle.lower_values.specs.Scopes.{Scope}
+use Rattle.lower_values.specs.Lowerings.{scoped, ◌>>=◌ as ◌then◌}
+use Rattle.lower_values.specs.References.{variable_of, or_nothing, declare_of, boxed, reference, first_name, dimension_in, bound_word, bound_or_size, is_allocated, inquiry_of, inquiry_or_nothing, inquiry}
 use Rattle.kind_laws.specs.Standing.{Knows}
 use Rattle.kind_laws.proofs.NoFaults.{impossible}
 use Rattle.world_laws.proofs.Fitting.{DeclaredAt, state_fits, is_below, refers}

@@ -22,7 +22,7 @@ use Rattle.hlfir_meaning.specs.Places.{column_at}
 use Rattle.hlfir_meaning.specs.Assign.{with_target}
 use Rattle.hlfir_meaning.specs.Steps.{after_first, second_region}
 use Rattle.hlfir_meaning.specs.Combinations.{Header, at_combinations, combined, places_in, replaced_over, forall_assign}
-use Rattle.lower_assign.specs.declared.names.Names.{Names}
+use Rattle.lower_values.specs.declared.names.Names.{Names}
 use Rattle.value_laws.specs.Variables.{Fits}
 use Rattle.world_laws.specs.Worlds.{FitsNames}
 use Rattle.world_laws.specs.Meanings.{LeavesWorld}

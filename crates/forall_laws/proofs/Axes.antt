@@ -16,7 +16,7 @@ use Rattle.hlfir_ops.proofs.Numbered.{numbers_of-append}
 use Rattle.hlfir_meaning.specs.Environments.{Value, scalar, scalar_in, Environment, Yielded}
 use Rattle.hlfir_meaning.specs.Stage1.{stage1}
 use Rattle.hlfir_meaning.specs.Combinations.{stepping, after, greater, last_part, axes}
-use Rattle.lower_assign.specs.declared.operand.Operand.{Operand}
+use Rattle.lower_values.specs.declared.operand.Operand.{Operand}
 use Rattle.value_laws.specs.Standing.{Kept, Goes}
 use Rattle.world_laws.specs.Yields.{scalars_of}
 use Rattle.world_laws.proofs.Listing.{stride_of, triple_exprs}

@@ -20,8 +20,8 @@ use Rattle.hlfir_ops.specs.Numbers.{op_numbers}
 use Rattle.hlfir_ops.specs.RulesStatements.{is_assign, is_forall_mask}
 use Rattle.hlfir_meaning.specs.Steps.{in_turn}
 use Rattle.hlfir_meaning.specs.Combinations.{Header, active_places, forall_part, first_line}
-use Rattle.lower_assign.specs.Scopes.{Scope}
-use Rattle.lower_assign.specs.Lowerings.{done, ◌>>=◌ as ◌then◌, scoped, statement_of}
+use Rattle.lower_values.specs.Scopes.{Scope}
+use Rattle.lower_values.specs.Lowerings.{done, ◌>>=◌ as ◌then◌, scoped, statement_of}
 use Rattle.lower_assign.specs.Statements.{assignment}
 use Rattle.lower_constructs.specs.Modules.{statements}
 use Rattle.kind_laws.proofs.NoFaults.{none_first, none_after, impossible}

@@ -18,9 +18,9 @@ use Rattle.hlfir_ops.specs.Numbers.{names_in, numbers_of}
 use Rattle.hlfir_ops.specs.RulesRegions.{ops_in}
 use Rattle.hlfir_meaning.specs.Steps.{after_first}
 use Rattle.hlfir_meaning.specs.Combinations.{Header, at_combinations, forall_assign, forall_part}
-use Rattle.lower_assign.specs.Scopes.{Scope, inside}
-use Rattle.lower_assign.specs.Lowerings.{Lowering, scoped, statement_of, regions_from}
-use Rattle.lower_assign.specs.Values.{value}
+use Rattle.lower_values.specs.Scopes.{Scope, inside}
+use Rattle.lower_values.specs.Lowerings.{Lowering, scoped, statement_of, regions_from}
+use Rattle.lower_values.specs.Values.{value}
 use Rattle.lower_assign.specs.Statements.{yielded, left, assignment, is_whole_allocatable}
 use Rattle.kind_laws.specs.Standing.{Knows}
 use Rattle.kind_laws.proofs.ScopesKnown.{inside_known}

@@ -36,9 +36,9 @@ use Rattle.hlfir_meaning.specs.Environments.{of_variables}
 use Rattle.hlfir_meaning.specs.Steps.{after_first, in_turn}
 use Rattle.hlfir_meaning.specs.Combinations.{Header, header, at_combinations, active_places, forall_part, first_line, run_forall}
 use Rattle.hlfir_meaning.specs.Statements.{simple}
-use Rattle.lower_assign.specs.declared.names.Names.{Names}
-use Rattle.lower_assign.specs.Scopes.{Scope, inside, index_of}
-use Rattle.lower_assign.specs.Lowerings.{Lowering, ◌>>◌, statement_of, regions_from}
+use Rattle.lower_values.specs.declared.names.Names.{Names}
+use Rattle.lower_values.specs.Scopes.{Scope, inside, index_of}
+use Rattle.lower_values.specs.Lowerings.{Lowering, ◌>>◌, statement_of, regions_from}
 use Rattle.lower_assign.specs.Statements.{all_yielded}
 use Rattle.lower_constructs.specs.Modules.{statement, statements, triples, forall_mask}
 use Rattle.kind_laws.specs.Standing.{Knows}

@@ -32,12 +32,12 @@ use Rattle.hlfir_meaning.specs.Environments.{Environment}
 use Rattle.hlfir_meaning.specs.References.{held_values}
 use Rattle.hlfir_meaning.specs.Operators.{operation_map}
 use Rattle.hlfir_meaning.specs.Places.{place_in}
-use Rattle.lower_assign.specs.declared.operand.Operand.{Operand}
-use Rattle.lower_assign.specs.Scopes.{Scope}
-use Rattle.lower_assign.specs.Lowerings.{Lowering, done, ◌>>=◌ as ◌then◌}
-use Rattle.lower_assign.specs.Operations.{binary_of, binary_operation, in_parentheses, unary_operation, nesting_of, joined, call_on}
-use Rattle.lower_assign.specs.References.{reference, loaded, named, subscript_of, designated, inquiry}
-use Rattle.lower_assign.specs.Values.{part_of, value, values, nested, subscripts, subscript}
+use Rattle.lower_values.specs.declared.operand.Operand.{Operand}
+use Rattle.lower_values.specs.Scopes.{Scope}
+use Rattle.lower_values.specs.Lowerings.{Lowering, done, ◌>>=◌ as ◌then◌}
+use Rattle.lower_values.specs.Operations.{binary_of, binary_operation, in_parentheses, unary_operation, nesting_of, joined, call_on}
+use Rattle.lower_values.specs.References.{reference, loaded, named, subscript_of, designated, inquiry}
+use Rattle.lower_values.specs.Values.{part_of, value, values, nested, subscripts, subscript}
 use Rattle.kind_laws.specs.Standing.{Knows}
 use Rattle.kind_laws.proofs.NoFaults.{none_first, none_after}
 use Rattle.kind_laws.proofs.TypeFacts.{no_type, unary_operand, binary_result, part_result}

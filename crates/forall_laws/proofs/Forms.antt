@@ -12,13 +12,13 @@ use Rattle.hlfir_ops.specs.declared.what.ValueBinary.{ValueBinary}
 use Rattle.hlfir_ops.specs.declared.what.ValueBinary.TheVariants as binaries
 use Rattle.hlfir_ops.specs.Numbers.{numbers_of}
 use Rattle.hlfir_meaning.specs.Environments.{Environment}
-use Rattle.lower_assign.specs.declared.operand.Operand.{Operand}
-use Rattle.lower_assign.specs.declared.operand.Subscript.{Subscript}
-use Rattle.lower_assign.specs.declared.operand.Subscript.TheVariants.{One, Vector}
-use Rattle.lower_assign.specs.Scopes.{Scope}
-use Rattle.lower_assign.specs.Lowerings.{Lowering, done, ◌>>=◌ as ◌then◌}
-use Rattle.lower_assign.specs.Operations.{nesting_of}
-use Rattle.lower_assign.specs.Values.{call_by, value, values}
+use Rattle.lower_values.specs.declared.operand.Operand.{Operand}
+use Rattle.lower_values.specs.declared.operand.Subscript.{Subscript}
+use Rattle.lower_values.specs.declared.operand.Subscript.TheVariants.{One, Vector}
+use Rattle.lower_values.specs.Scopes.{Scope}
+use Rattle.lower_values.specs.Lowerings.{Lowering, done, ◌>>=◌ as ◌then◌}
+use Rattle.lower_values.specs.Operations.{nesting_of}
+use Rattle.lower_values.specs.Values.{call_by, value, values}
 use Rattle.value_laws.specs.Standing.{Kept}
 use Rattle.value_laws.proofs.Columns.{IsNesting, min-nests, max-nests}
 use Rattle.forall_laws.specs.Walks.{DoesOver, IsColumn, AreSubscripts}

@@ -17,10 +17,10 @@ use Rattle.hlfir_ops.proofs.Numbered.{op_numbers-op_of}
 use Rattle.hlfir_meaning.specs.Environments.{Value, Environment, with_value}
 use Rattle.hlfir_meaning.specs.Order.{ends}
 use Rattle.hlfir_meaning.specs.Places.{over, as_column}
-use Rattle.lower_assign.specs.declared.operand.Operand.{Operand}
-use Rattle.lower_assign.specs.Scopes.{Scope, index_of}
-use Rattle.lower_assign.specs.Lowerings.{giving}
-use Rattle.lower_assign.specs.Operations.{constant}
+use Rattle.lower_values.specs.declared.operand.Operand.{Operand}
+use Rattle.lower_values.specs.Scopes.{Scope, index_of}
+use Rattle.lower_values.specs.Lowerings.{giving}
+use Rattle.lower_values.specs.Operations.{constant}
 use Rattle.value_laws.specs.Standing.{Kept}
 use Rattle.value_laws.proofs.Walking.{with_value-here}
 use Rattle.forall_laws.specs.Walks.{DoesOver, IsPlain, IsColumn}

@@ -29,11 +29,11 @@ use Rattle.hlfir_meaning.specs.Environments.{scalar, Environment, of_variables, 
 use Rattle.hlfir_meaning.specs.Stage1.{stage1, subscripts_in, subscript_numbers}
 use Rattle.hlfir_meaning.specs.Stage1 as walked
 use Rattle.hlfir_meaning.specs.Combinations.{axes, header}
-use Rattle.lower_assign.specs.declared.operand.Operand.{Operand}
-use Rattle.lower_assign.specs.Scopes.{Scope}
-use Rattle.lower_assign.specs.Lowerings.{Lowered, done, ◌>>=◌ as ◌then◌}
-use Rattle.lower_assign.specs.Values.{value}
-use Rattle.lower_assign.specs.Lists.{values}
+use Rattle.lower_values.specs.declared.operand.Operand.{Operand}
+use Rattle.lower_values.specs.Scopes.{Scope}
+use Rattle.lower_values.specs.Lowerings.{Lowered, done, ◌>>=◌ as ◌then◌}
+use Rattle.lower_values.specs.Values.{value}
+use Rattle.lower_values.specs.Lists.{values}
 use Rattle.lower_constructs.specs.Modules.{triple, triples}
 use Rattle.kind_laws.proofs.NoFaults.{none_first, none_after, not_broken}
 use Rattle.kind_laws.proofs.TypedExpressions.{type_known}

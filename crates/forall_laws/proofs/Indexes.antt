@@ -19,9 +19,9 @@ use Rattle.array_meaning.specs.Forall.{Combination, by_name}
 use Rattle.hlfir_ops.specs.declared.op.ValueId.{ValueId}
 use Rattle.hlfir_meaning.specs.Environments.{column, Environment, with_value}
 use Rattle.hlfir_meaning.specs.Combinations.{index_column, with_indexes}
-use Rattle.lower_assign.specs.declared.names.Names.{Names}
-use Rattle.lower_assign.specs.Scopes.{Scope, Indexed, index_of}
-use Rattle.lower_assign.specs.Scopes as scopes
+use Rattle.lower_values.specs.declared.names.Names.{Names}
+use Rattle.lower_values.specs.Scopes.{Scope, Indexed, index_of}
+use Rattle.lower_values.specs.Scopes as scopes
 use Rattle.kind_laws.specs.Standing.{NameIsKnown}
 use Rattle.kind_laws.specs.Laws.{index_names}
 use Rattle.kind_laws.proofs.NoFaults.{none_first, none_after, not_broken}

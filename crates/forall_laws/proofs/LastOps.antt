@@ -19,11 +19,11 @@ use Rattle.hlfir_ops.specs.declared.op.Op.{Op}
 use Rattle.hlfir_ops.specs.Trees.{op_of}
 use Rattle.hlfir_ops.specs.Numbers.{op_numbers, numbers_of, own_numbers}
 use Rattle.hlfir_ops.proofs.Numbered.{numbers_of-append, op_numbers-op_of}
-use Rattle.lower_assign.specs.declared.operand.Operand.{Operand}
-use Rattle.lower_assign.specs.Scopes.{Scope}
-use Rattle.lower_assign.specs.Lowerings.{Lowering, done, ◌>>=◌, scoped, giving, giving_by, regions_from}
-use Rattle.lower_assign.specs.Operations.{rank_from, on_scalars, at_each, element, operation, value_of_whole, in_parentheses, unary_operation, reduction_of, total_or, call_on, vector}
-use Rattle.lower_assign.specs.Values.{constant_or, folded}
+use Rattle.lower_values.specs.declared.operand.Operand.{Operand}
+use Rattle.lower_values.specs.Scopes.{Scope}
+use Rattle.lower_values.specs.Lowerings.{Lowering, done, ◌>>=◌, scoped, giving, giving_by, regions_from}
+use Rattle.lower_values.specs.Operations.{rank_from, on_scalars, at_each, element, operation, value_of_whole, in_parentheses, unary_operation, reduction_of, total_or, call_on, vector}
+use Rattle.lower_values.specs.Values.{constant_or, folded}
 
 -- the last op gives it
 pub record IsLast (n : ℕ) (ops : List Op) (number : ℕ) : Type 0 where

@@ -19,12 +19,12 @@ use Rattle.hlfir_ops.specs.declared.kinds.ValueKind.TheVariants as kind
 use Rattle.hlfir_ops.specs.declared.what.ValueBinary.{ValueBinary}
 use Rattle.hlfir_ops.specs.declared.what.What.TheVariants as what
 use Rattle.hlfir_ops.specs.declared.op.ValueId.{ValueId}
-use Rattle.lower_assign.specs.declared.operand.Operand.{Operand}
-use Rattle.lower_assign.specs.Scopes.{Scope, index_of}
-use Rattle.lower_assign.specs.Lowerings.{Lowering, done, ◌>>=◌, scoped}
-use Rattle.lower_assign.specs.Operations.{binary_of, binary_operation, in_parentheses, unary_operation, nesting_of, joined, call_on, vector}
-use Rattle.lower_assign.specs.References.{variable_of, declare_of, box_of, boxed, reference, load_of, loaded, variable_or_truth, index_or_other, named, designated, size, bound, bound_word, bound_or_size, is_allocated, inquiry_or_nothing, inquiry, dimension_in}
-use Rattle.lower_assign.specs.Values.{call_by, part_of, value, values, nested, subscripts}
+use Rattle.lower_values.specs.declared.operand.Operand.{Operand}
+use Rattle.lower_values.specs.Scopes.{Scope, index_of}
+use Rattle.lower_values.specs.Lowerings.{Lowering, done, ◌>>=◌, scoped}
+use Rattle.lower_values.specs.Operations.{binary_of, binary_operation, in_parentheses, unary_operation, nesting_of, joined, call_on, vector}
+use Rattle.lower_values.specs.References.{variable_of, declare_of, box_of, boxed, reference, load_of, loaded, variable_or_truth, index_or_other, named, designated, size, bound, bound_word, bound_or_size, is_allocated, inquiry_or_nothing, inquiry, dimension_in}
+use Rattle.lower_values.specs.Values.{call_by, part_of, value, values, nested, subscripts}
 use Rattle.kind_laws.specs.Standing.{Knows}
 use Rattle.kind_laws.proofs.TypeFacts.{no_type, unary_operand}
 use Rattle.forall_laws.proofs.Asked.{asks_name}

@@ -17,8 +17,8 @@ use Rattle.array_meaning.specs.Forall as source
 use Rattle.array_meaning.specs.Forall.{Combination}
 use Rattle.hlfir_meaning.specs.Environments.{Environment}
 use Rattle.hlfir_meaning.specs.Places.{place_in}
-use Rattle.lower_assign.specs.Scopes.{Scope}
-use Rattle.lower_assign.specs.Values.{part_of, subscripts}
+use Rattle.lower_values.specs.Scopes.{Scope}
+use Rattle.lower_values.specs.Values.{part_of, subscripts}
 use Rattle.kind_laws.specs.Standing.{Knows}
 use Rattle.kind_laws.proofs.NoFaults.{none_first, none_after}
 use Rattle.kind_laws.proofs.TypeFacts.{part_result}

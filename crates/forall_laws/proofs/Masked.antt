@@ -27,9 +27,9 @@ use Rattle.hlfir_meaning.specs.Environments.{result}
 use Rattle.hlfir_meaning.specs.Places.{column_at}
 use Rattle.hlfir_meaning.specs.Steps.{first_region, in_turn}
 use Rattle.hlfir_meaning.specs.Combinations.{Header, at_combinations, combined, active_places, forall_part, first_line}
-use Rattle.lower_assign.specs.Scopes.{Scope, inside}
-use Rattle.lower_assign.specs.Lowerings.{done, ◌>>=◌ as ◌then◌, ◌>>◌, scoped, statement_of, regions_from}
-use Rattle.lower_assign.specs.Values.{value}
+use Rattle.lower_values.specs.Scopes.{Scope, inside}
+use Rattle.lower_values.specs.Lowerings.{done, ◌>>=◌ as ◌then◌, ◌>>◌, scoped, statement_of, regions_from}
+use Rattle.lower_values.specs.Values.{value}
 use Rattle.lower_assign.specs.Statements.{yielded}
 use Rattle.lower_constructs.specs.Modules.{statements, forall_mask}
 use Rattle.kind_laws.proofs.NoFaults.{none_first, none_after, not_broken}

@@ -31,13 +31,13 @@ use Rattle.hlfir_ops.specs.declared.op.ValueId.{ValueId}
 use Rattle.hlfir_meaning.specs.Environments.{Value as Worth, variable, column, Environment}
 use Rattle.hlfir_meaning.specs.Places.{loaded_at}
 use Rattle.hlfir_meaning.specs.References.{held_scalar}
-use Rattle.lower_assign.specs.declared.names.Names.{Names}
-use Rattle.lower_assign.specs.declared.operand.Operand.{Operand}
-use Rattle.lower_assign.specs.Scopes.{Scope, index_of}
-use Rattle.lower_assign.specs.Lowerings.{Lowering, done, ◌>>=◌ as ◌then◌}
-use Rattle.lower_assign.specs.Operations.{constant}
-use Rattle.lower_assign.specs.References.{variable_of, truth_of, boxed, loaded, variable_or_truth, index_or_other, named}
-use Rattle.lower_assign.specs.Values.{constant_or, folded}
+use Rattle.lower_values.specs.declared.names.Names.{Names}
+use Rattle.lower_values.specs.declared.operand.Operand.{Operand}
+use Rattle.lower_values.specs.Scopes.{Scope, index_of}
+use Rattle.lower_values.specs.Lowerings.{Lowering, done, ◌>>=◌ as ◌then◌}
+use Rattle.lower_values.specs.Operations.{constant}
+use Rattle.lower_values.specs.References.{variable_of, truth_of, boxed, loaded, variable_or_truth, index_or_other, named}
+use Rattle.lower_values.specs.Values.{constant_or, folded}
 use Rattle.kind_laws.proofs.FormsFound.{same_operand}
 use Rattle.value_laws.specs.Variables.{Fits}
 use Rattle.value_laws.specs.Names.{IfValue}

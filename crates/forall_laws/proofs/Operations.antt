@@ -24,9 +24,9 @@ use Rattle.hlfir_meaning.specs.Order.{ends}
 use Rattle.hlfir_meaning.specs.Operators as operators
 use Rattle.hlfir_meaning.specs.Operators.{operation_map, select_operation}
 use Rattle.hlfir_meaning.specs.Places.{over, as_column, column_at, columns_of}
-use Rattle.lower_assign.specs.declared.operand.Operand.{Operand}
-use Rattle.lower_assign.specs.Scopes.{Scope}
-use Rattle.lower_assign.specs.Operations.{rank_from, arranged, values_of, on_scalars, operation, binary_of, binary_operation, value_of_whole, in_parentheses, unary_operation, nesting_of, what_of, call_elem, call_on}
+use Rattle.lower_values.specs.declared.operand.Operand.{Operand}
+use Rattle.lower_values.specs.Scopes.{Scope}
+use Rattle.lower_values.specs.Operations.{rank_from, arranged, values_of, on_scalars, operation, binary_of, binary_operation, value_of_whole, in_parentheses, unary_operation, nesting_of, what_of, call_elem, call_on}
 use Rattle.forall_laws.specs.Walks.{DoesOver, IsPlain, IsColumn, AreColumns}
 use Rattle.forall_laws.proofs.Walking.{over-done}
 use Rattle.forall_laws.proofs.Given.{over-column}

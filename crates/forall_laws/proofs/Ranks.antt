@@ -21,9 +21,9 @@ use Rattle.ws_types.specs.Names.{standing_of, name_type, name_faults, entry_type
 use Rattle.ws_types.specs.Operations.{takes, is_inquiry, is_reduction, with_subscript, no_arguments, with_argument, vector_faults, call_type, part_faults, is_allocated_word, is_outside, is_outside_type, inquiry_faults}
 use Rattle.ws_types.specs.Expressions.{listed, how_many, named_type, named_faults, typed, faults, arguments, all_faults, subs_faults, called_type, called_faults}
 use Rattle.ws_types.specs.Expressions as types
-use Rattle.lower_assign.specs.declared.operand.Operand.{Operand}
-use Rattle.lower_assign.specs.Scopes.{Scope}
-use Rattle.lower_assign.specs.References.{variable_of}
+use Rattle.lower_values.specs.declared.operand.Operand.{Operand}
+use Rattle.lower_values.specs.Scopes.{Scope}
+use Rattle.lower_values.specs.References.{variable_of}
 use Rattle.kind_laws.specs.Standing.{EntryIsKnown, NameIsKnown, Knows}
 use Rattle.kind_laws.proofs.NoFaults.{none_first, none_after, not_broken, impossible, left_false}
 use Rattle.kind_laws.proofs.TypeFacts.{no_type, same_type, not_chosen}

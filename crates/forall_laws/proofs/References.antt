@@ -24,13 +24,13 @@ use Rattle.hlfir_ops.specs.RulesForms.{section_rank}
 use Rattle.hlfir_meaning.specs.Environments.{Value, variable, column, placed, Environment, state_in}
 use Rattle.hlfir_meaning.specs.References.{held_values, inquired}
 use Rattle.hlfir_meaning.specs.Places.{column_at, columns_of, loaded_at, place_in, designated, without_element, as_column}
-use Rattle.lower_assign.specs.declared.operand.Operand.{Operand}
-use Rattle.lower_assign.specs.declared.operand.Subscript.{Subscript}
-use Rattle.lower_assign.specs.declared.operand.Subscript.TheVariants.{One, Range, Vector}
-use Rattle.lower_assign.specs.Scopes.{Scope}
-use Rattle.lower_assign.specs.Lowerings.{giving}
-use Rattle.lower_assign.specs.References.{variable_of, or_nothing, declare_of, box_of, boxed, reference, load_of, loaded, sub_kind, sub_values, part_kind, bound, dimension, bound_word, bound_or_size, size, is_allocated}
-use Rattle.lower_assign.specs.References as references
+use Rattle.lower_values.specs.declared.operand.Operand.{Operand}
+use Rattle.lower_values.specs.declared.operand.Subscript.{Subscript}
+use Rattle.lower_values.specs.declared.operand.Subscript.TheVariants.{One, Range, Vector}
+use Rattle.lower_values.specs.Scopes.{Scope}
+use Rattle.lower_values.specs.Lowerings.{giving}
+use Rattle.lower_values.specs.References.{variable_of, or_nothing, declare_of, box_of, boxed, reference, load_of, loaded, sub_kind, sub_values, part_kind, bound, dimension, bound_word, bound_or_size, size, is_allocated}
+use Rattle.lower_values.specs.References as references
 use Rattle.forall_laws.specs.Walks.{DoesOver, IsColumn, IsReference, AreSubscripts, IsPlace, ArePlaces}
 use Rattle.forall_laws.proofs.Walking.{over-done}
 use Rattle.forall_laws.proofs.Given.{over-giving, over-column}

@@ -23,9 +23,9 @@ use Rattle.hlfir_ops.specs.declared.what.What.{What}
 use Rattle.hlfir_ops.specs.Numbers.{names_in}
 use Rattle.hlfir_meaning.specs.Environments.{Environment}
 use Rattle.hlfir_meaning.specs.Places.{column_at}
-use Rattle.lower_assign.specs.Scopes.{Scope, inside, index_of}
-use Rattle.lower_assign.specs.Scopes as scopes
-use Rattle.lower_assign.specs.Values.{value}
+use Rattle.lower_values.specs.Scopes.{Scope, inside, index_of}
+use Rattle.lower_values.specs.Scopes as scopes
+use Rattle.lower_values.specs.Values.{value}
 use Rattle.lower_assign.specs.Statements.{yielded, left, left_of}
 use Rattle.kind_laws.specs.Standing.{Knows}
 use Rattle.kind_laws.proofs.NoFaults.{none_first, none_after, not_broken, impossible, left_false, right_false}

@@ -12,8 +12,8 @@ use Rattle.hlfir_ops.proofs.Numbered.{numbers_of-append, op_numbers-op_of}
 use Rattle.hlfir_meaning.specs.Environments.{Value, Environment, with_value}
 use Rattle.hlfir_meaning.specs.Order.{ends}
 use Rattle.hlfir_meaning.specs.Places.{over, over_ops}
-use Rattle.lower_assign.specs.Scopes.{Scope}
-use Rattle.lower_assign.specs.Lowerings.{Lowering, done, ◌>>=◌ as ◌then◌, scoped}
+use Rattle.lower_values.specs.Scopes.{Scope}
+use Rattle.lower_values.specs.Lowerings.{Lowering, done, ◌>>=◌ as ◌then◌, scoped}
 use Rattle.value_laws.specs.Standing.{Kept}
 use Rattle.value_laws.proofs.Ops.{over-op}
 use Rattle.value_laws.proofs.Walking.{with_value-other}

@@ -8,9 +8,9 @@ use Rattle.hlfir_ops.specs.Numbers.{numbers_of}
 use Rattle.hlfir_meaning.specs.Environments.{Value, Environment, Yielded, yielding}
 use Rattle.hlfir_meaning.specs.Places.{over, over_ops}
 use Rattle.hlfir_ops.specs.declared.op.Op.{out-Op}
-use Rattle.lower_assign.specs.declared.operand.Operand.{Operand}
-use Rattle.lower_assign.specs.Scopes.{Scope}
-use Rattle.lower_assign.specs.Lowerings.{Lowering, ◌>>=◌, acting}
+use Rattle.lower_values.specs.declared.operand.Operand.{Operand}
+use Rattle.lower_values.specs.Scopes.{Scope}
+use Rattle.lower_values.specs.Lowerings.{Lowering, ◌>>=◌, acting}
 use Rattle.lower_assign.specs.Statements.{yielded}
 use Rattle.value_laws.proofs.Ops.{ending}
 use Rattle.forall_laws.specs.Walks.{DoesOver}

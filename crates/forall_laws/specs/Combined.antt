@@ -8,8 +8,8 @@ use Rattle.array_meaning.specs.Stage1.{constant_of}
 use Rattle.array_meaning.specs.Forall.{Combination}
 use Rattle.hlfir_ops.specs.declared.op.ValueId.{ValueId}
 use Rattle.hlfir_meaning.specs.Environments.{column, Environment, of_variables}
-use Rattle.lower_assign.specs.declared.names.Names.{Names}
-use Rattle.lower_assign.specs.Scopes.{Scope, index_of}
+use Rattle.lower_values.specs.declared.names.Names.{Names}
+use Rattle.lower_values.specs.Scopes.{Scope, index_of}
 use Rattle.world_laws.specs.Worlds.{FitsNames}
 
 -- the values of an index name, whose number is below this one

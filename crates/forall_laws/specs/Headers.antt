@@ -9,7 +9,7 @@ use Rattle.array_meaning.specs.declared.world.World.{World}
 use Rattle.array_meaning.specs.Forall as source
 use Rattle.hlfir_meaning.specs.Environments.{of_variables}
 use Rattle.hlfir_meaning.specs.Combinations.{header}
-use Rattle.lower_assign.specs.Scopes.{Scope}
+use Rattle.lower_values.specs.Scopes.{Scope}
 use Rattle.lower_assign.specs.Statements.{all_yielded}
 use Rattle.lower_constructs.specs.Modules.{triples}
 use Rattle.world_laws.specs.Meanings.{StandsOutside}

@@ -8,8 +8,8 @@ use Rattle.array_meaning.specs.declared.world.World.{World}
 use Rattle.hlfir_ops.specs.declared.op.Op.{Op}
 use Rattle.hlfir_ops.specs.Numbers.{numbers_of}
 use Rattle.hlfir_meaning.specs.Stage1.{subscript_numbers}
-use Rattle.lower_assign.specs.Scopes.{Scope}
-use Rattle.lower_assign.specs.Lists.{values}
+use Rattle.lower_values.specs.Scopes.{Scope}
+use Rattle.lower_values.specs.Lists.{values}
 use Rattle.value_laws.specs.Standing.{IsOwn}
 use Rattle.world_laws.specs.Meanings.{StandsOutside, IsIntegerScalar}
 

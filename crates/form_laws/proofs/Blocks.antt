@@ -21,10 +21,10 @@ use Rattle.ws_sema.specs.Statements.{is_inside, item_faults, allocation_faults, 
 use Rattle.hlfir_ops.specs.declared.what.What.{What}
 use Rattle.hlfir_ops.specs.declared.what.What.TheVariants as what
 use Rattle.hlfir_ops.specs.RulesValues.{Value, value_at, is_integer_declare}
-use Rattle.lower_assign.specs.Scopes.{Scope, inside}
-use Rattle.lower_assign.specs.Lowerings.{◌>>◌, statement_of}
-use Rattle.lower_assign.specs.References.{declare_of}
-use Rattle.lower_assign.specs.Values.{value}
+use Rattle.lower_values.specs.Scopes.{Scope, inside}
+use Rattle.lower_values.specs.Lowerings.{◌>>◌, statement_of}
+use Rattle.lower_values.specs.References.{declare_of}
+use Rattle.lower_values.specs.Values.{value}
 use Rattle.lower_assign.specs.Statements.{yielded, all_yielded, allocation, deallocation, reading}
 use Rattle.lower_constructs.specs.Modules.{triple, triples, forall_mask, elsewhere, statement, statements, elsewheres, statement_list}
 use Rattle.kind_laws.proofs.ScopesFound.{loop_variables_are_found}

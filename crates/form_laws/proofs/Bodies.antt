@@ -15,10 +15,10 @@ use Rattle.hlfir_ops.specs.Numbers.{numbers_of}
 use Rattle.hlfir_ops.specs.RulesValues.{Value, kind_of, kind_at, same_elem, has_rank}
 use Rattle.hlfir_ops.specs.RulesRegions.{is_apply, is_yield, is_yield_element, last_of, parts_of, parts, first_kind}
 use Rattle.hlfir_ops.specs.RulesForms.{applies_rank, is_elemental_of}
-use Rattle.lower_assign.specs.declared.operand.Operand.{Operand}
-use Rattle.lower_assign.specs.Scopes.{Scope, inside}
-use Rattle.lower_assign.specs.Lowerings.{Lowered, ◌>>=◌, giving, acting, giving_by}
-use Rattle.lower_assign.specs.Operations.{values_of, arranged, on_scalars, at_positions, element, at_each}
+use Rattle.lower_values.specs.declared.operand.Operand.{Operand}
+use Rattle.lower_values.specs.Scopes.{Scope, inside}
+use Rattle.lower_values.specs.Lowerings.{Lowered, ◌>>=◌, giving, acting, giving_by}
+use Rattle.lower_values.specs.Operations.{values_of, arranged, on_scalars, at_positions, element, at_each}
 use Rattle.kind_laws.specs.Found.{Holds}
 use Rattle.form_laws.proofs.Passing.{AreFit, fit-append, fit-op, fit-region}
 use Rattle.kind_laws.proofs.ScopesFound.{regions_are_held}

@@ -19,11 +19,11 @@ use Rattle.hlfir_ops.specs.declared.what.Reduction.TheVariants as reduction
 use Rattle.hlfir_ops.specs.declared.what.What.TheVariants as what
 use Rattle.hlfir_ops.specs.RulesValues.{Value, kind_at, same_elem, elem_of, rank_of, is_scalar, is_array, has_elem}
 use Rattle.hlfir_ops.specs.RulesForms.{reduced_elem, total_elem, is_reduced, same_scalars, are_items, is_array_of}
-use Rattle.lower_assign.specs.declared.operand.Operand.{Operand}
+use Rattle.lower_values.specs.declared.operand.Operand.{Operand}
 use Rattle.lower_assign.specs.Known.{elem}
-use Rattle.lower_assign.specs.Scopes.{Scope}
-use Rattle.lower_assign.specs.Lowerings.{giving}
-use Rattle.lower_assign.specs.Operations.{values_of, operation, total, call_on, vector, nesting_of}
+use Rattle.lower_values.specs.Scopes.{Scope}
+use Rattle.lower_values.specs.Lowerings.{giving}
+use Rattle.lower_values.specs.Operations.{values_of, operation, total, call_on, vector, nesting_of}
 use Rattle.kind_laws.specs.Found.{Holds}
 use Rattle.form_laws.proofs.Passing.{fit-op}
 use Rattle.form_laws.proofs.Operands.{scalar_kind, array_kind}

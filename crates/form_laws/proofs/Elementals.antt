@@ -15,10 +15,10 @@ use Rattle.hlfir_ops.specs.Numbers.{numbers_of}
 use Rattle.hlfir_ops.specs.RulesValues.{Value, kind_of, kind_at, elem_of, rank_of, has_rank, is_array}
 use Rattle.hlfir_ops.specs.RulesRegions.{is_apply}
 use Rattle.hlfir_ops.specs.RulesForms.{applies_rank, is_scalar_of}
-use Rattle.lower_assign.specs.declared.operand.Operand.{Operand}
-use Rattle.lower_assign.specs.Scopes.{Scope}
-use Rattle.lower_assign.specs.Lowerings.{Lowering, Lowered, done, ◌>>=◌, giving}
-use Rattle.lower_assign.specs.Operations.{values_of, arranged, on_scalars, at_position, at_positions}
+use Rattle.lower_values.specs.declared.operand.Operand.{Operand}
+use Rattle.lower_values.specs.Scopes.{Scope}
+use Rattle.lower_values.specs.Lowerings.{Lowering, Lowered, done, ◌>>=◌, giving}
+use Rattle.lower_values.specs.Operations.{values_of, arranged, on_scalars, at_position, at_positions}
 use Rattle.kind_laws.specs.Found.{Holds}
 use Rattle.form_laws.proofs.Passing.{AreFit, fit-none, fit-append, fit-op, part_fits}
 use Rattle.kind_laws.proofs.Finding.{holds_first, holds_after, own_value}

@@ -19,13 +19,13 @@ use Rattle.hlfir_ops.specs.declared.what.ValueBinary.TheVariants as binary
 use Rattle.hlfir_ops.specs.RulesValues as values
 use Rattle.hlfir_ops.specs.RulesValues.{elem_of, rank_of}
 use Rattle.hlfir_ops.specs.RulesForms.{operand_elem, result_elem}
-use Rattle.lower_assign.specs.declared.operand.Operand.{Operand}
+use Rattle.lower_values.specs.declared.operand.Operand.{Operand}
 use Rattle.lower_assign.specs.Known.{elem}
-use Rattle.lower_assign.specs.Scopes.{Scope}
-use Rattle.lower_assign.specs.Lowerings.{Lowering, done, scoped}
-use Rattle.lower_assign.specs.Operations.{nesting_of, joined}
-use Rattle.lower_assign.specs.References.{or_nothing}
-use Rattle.lower_assign.specs.Values.{constant_or, folded, call_by}
+use Rattle.lower_values.specs.Scopes.{Scope}
+use Rattle.lower_values.specs.Lowerings.{Lowering, done, scoped}
+use Rattle.lower_values.specs.Operations.{nesting_of, joined}
+use Rattle.lower_values.specs.References.{or_nothing}
+use Rattle.lower_values.specs.Values.{constant_or, folded, call_by}
 use Rattle.kind_laws.specs.Found.{Holds}
 use Rattle.kind_laws.proofs.NoFaults.{impossible, left_false}
 use Rattle.form_laws.proofs.Constants.{HasDefault, ConstantsFit, constancy-fits}

@@ -12,8 +12,8 @@ use Rattle.hlfir_ops.specs.RulesValues.{Value, values_of}
 use Rattle.hlfir_ops.specs.RulesPlaces.{Site, outermost, sites_of, module_sites}
 use Rattle.hlfir_ops.specs.Rules.{operands_fit, result_fits, facts_of}
 use Rattle.lower_assign.specs.Known.{names_of}
-use Rattle.lower_assign.specs.Scopes.{Scope, scope_at}
-use Rattle.lower_assign.specs.Lowerings.{in_turn}
+use Rattle.lower_values.specs.Scopes.{Scope, scope_at}
+use Rattle.lower_values.specs.Lowerings.{in_turn}
 use Rattle.lower_constructs.specs.Modules.{declaration, statement_list, program, lowered}
 use Rattle.kind_laws.specs.Found.{Holds}
 use Rattle.kind_laws.proofs.NamesKnown.{names_are_known}

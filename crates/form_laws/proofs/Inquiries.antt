@@ -16,10 +16,10 @@ use Rattle.ws_types.specs.Expressions.{first_standing}
 use Rattle.hlfir_ops.specs.declared.what.BoundWord.{BoundWord}
 use Rattle.hlfir_ops.specs.declared.what.BoundWord.TheVariants.{Extent}
 use Rattle.hlfir_ops.specs.RulesValues.{Value, kind_of, rank_of, is_reference}
-use Rattle.lower_assign.specs.declared.operand.Operand.{Operand}
-use Rattle.lower_assign.specs.Scopes.{Scope}
-use Rattle.lower_assign.specs.Lowerings.{◌>>=◌, scoped}
-use Rattle.lower_assign.specs.References.{declare_of, reference, bound_word, bound_or_size, is_allocated, first_name, dimension_in, inquiry_or_nothing, inquiry}
+use Rattle.lower_values.specs.declared.operand.Operand.{Operand}
+use Rattle.lower_values.specs.Scopes.{Scope}
+use Rattle.lower_values.specs.Lowerings.{◌>>=◌, scoped}
+use Rattle.lower_values.specs.References.{declare_of, reference, bound_word, bound_or_size, is_allocated, first_name, dimension_in, inquiry_or_nothing, inquiry}
 use Rattle.ws_types.specs.Kinds.{when}
 use Rattle.ws_sema.specs.Statements.{allocatable_faults}
 use Rattle.kind_laws.proofs.ScopesFound.{allocatables_are_found}

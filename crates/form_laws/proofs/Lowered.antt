@@ -22,15 +22,15 @@ use Rattle.hlfir_ops.specs.declared.what.ValueUnary.TheVariants as unary_word
 use Rattle.hlfir_ops.specs.declared.what.What.TheVariants as what
 use Rattle.hlfir_ops.specs.Numbers.{numbers_of}
 use Rattle.hlfir_ops.specs.RulesValues.{Value, rank_of, is_reference}
-use Rattle.lower_assign.specs.declared.operand.Operand.{Operand}
-use Rattle.lower_assign.specs.declared.operand.Subscript.{Subscript}
-use Rattle.lower_assign.specs.declared.operand.Subscript.TheVariants.{Range}
+use Rattle.lower_values.specs.declared.operand.Operand.{Operand}
+use Rattle.lower_values.specs.declared.operand.Subscript.{Subscript}
+use Rattle.lower_values.specs.declared.operand.Subscript.TheVariants.{Range}
 use Rattle.lower_assign.specs.Known.{elem}
-use Rattle.lower_assign.specs.Scopes.{Scope}
-use Rattle.lower_assign.specs.Lowerings.{Lowering, done, ◌>>=◌, giving}
-use Rattle.lower_assign.specs.Operations.{constant, binary_of, binary_operation, unary_operation, vector}
-use Rattle.lower_assign.specs.References.{reference, bound, designated}
-use Rattle.lower_assign.specs.Values.{value, subscripts, subscript, part_of}
+use Rattle.lower_values.specs.Scopes.{Scope}
+use Rattle.lower_values.specs.Lowerings.{Lowering, done, ◌>>=◌, giving}
+use Rattle.lower_values.specs.Operations.{constant, binary_of, binary_operation, unary_operation, vector}
+use Rattle.lower_values.specs.References.{reference, bound, designated}
+use Rattle.lower_values.specs.Values.{value, subscripts, subscript, part_of}
 use Rattle.kind_laws.specs.Found.{Holds}
 use Rattle.kind_laws.proofs.ExpressionsMade.{kinds_are_types}
 use Rattle.kind_laws.proofs.ExpressionsFound.{values_are_found}

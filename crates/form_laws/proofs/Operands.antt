@@ -7,9 +7,9 @@ use Rattle.hlfir_ops.specs.declared.kinds.ValueKind.TheVariants.{Scalar, Place, 
 use Rattle.hlfir_ops.specs.declared.what.What.{What}
 use Rattle.hlfir_ops.specs.declared.op.ValueId.{ValueId}
 use Rattle.hlfir_ops.specs.RulesValues.{Value, kind_of, kind_at, elem_of, rank_of, is_array}
-use Rattle.lower_assign.specs.declared.operand.Operand.{Operand}
-use Rattle.lower_assign.specs.Scopes.{Scope}
-use Rattle.lower_assign.specs.Lowerings.{Lowered, giving}
+use Rattle.lower_values.specs.declared.operand.Operand.{Operand}
+use Rattle.lower_values.specs.Scopes.{Scope}
+use Rattle.lower_values.specs.Lowerings.{Lowered, giving}
 use Rattle.kind_laws.specs.Found.{Holds, Found}
 use Rattle.form_laws.proofs.Passing.{AreFit, fit-op, part_fits}
 use Rattle.kind_laws.proofs.Finding.{own_value}

@@ -12,10 +12,10 @@ use Rattle.hlfir_ops.specs.declared.what.What.{What}
 use Rattle.hlfir_ops.specs.declared.what.What.TheVariants as what
 use Rattle.hlfir_ops.specs.RulesValues.{Value, kind_of, kind_at, same_elem, elem_of, rank_of, is_scalar}
 use Rattle.hlfir_ops.specs.RulesForms.{unary_elem, operand_elem, result_elem, same_scalars, are_two, are_choices, is_scalar_of}
-use Rattle.lower_assign.specs.declared.operand.Operand.{Operand}
-use Rattle.lower_assign.specs.Scopes.{Scope}
-use Rattle.lower_assign.specs.Lowerings.{Lowered, giving, giving_by}
-use Rattle.lower_assign.specs.Operations.{values_of, arranged, on_scalars, at_each, operation, rank_from}
+use Rattle.lower_values.specs.declared.operand.Operand.{Operand}
+use Rattle.lower_values.specs.Scopes.{Scope}
+use Rattle.lower_values.specs.Lowerings.{Lowered, giving, giving_by}
+use Rattle.lower_values.specs.Operations.{values_of, arranged, on_scalars, at_each, operation, rank_from}
 use Rattle.kind_laws.specs.Found.{Holds}
 use Rattle.form_laws.proofs.Passing.{part_fits}
 use Rattle.kind_laws.proofs.Finding.{own_value}

@@ -12,14 +12,14 @@ use Rattle.hlfir_ops.specs.declared.what.What.TheVariants as what
 use Rattle.hlfir_ops.specs.declared.op.ValueId.{ValueId}
 use Rattle.hlfir_ops.specs.RulesValues.{Value, kind_at, same_elem, elem_of, rank_of, is_scalar, is_reference, is_array, has_elem, has_rank, is_index_vector}
 use Rattle.hlfir_ops.specs.RulesForms.{take_subscripts, is_part_of, section_rank}
-use Rattle.lower_assign.specs.declared.operand.Operand.{Operand}
-use Rattle.lower_assign.specs.declared.operand.Subscript.{Subscript}
-use Rattle.lower_assign.specs.declared.operand.Subscript.TheVariants.{One, Range, Vector}
+use Rattle.lower_values.specs.declared.operand.Operand.{Operand}
+use Rattle.lower_values.specs.declared.operand.Subscript.{Subscript}
+use Rattle.lower_values.specs.declared.operand.Subscript.TheVariants.{One, Range, Vector}
 use Rattle.hlfir_ops.specs.Numbers.{numbers_of}
 use Rattle.lower_assign.specs.Known.{elem}
-use Rattle.lower_assign.specs.Scopes.{Scope}
-use Rattle.lower_assign.specs.Lowerings.{Lowering, Lowered, ◌>>=◌, giving}
-use Rattle.lower_assign.specs.References.{sub_kind, sub_values, subscript_of, part_kind, designated}
+use Rattle.lower_values.specs.Scopes.{Scope}
+use Rattle.lower_values.specs.Lowerings.{Lowering, Lowered, ◌>>=◌, giving}
+use Rattle.lower_values.specs.References.{sub_kind, sub_values, subscript_of, part_kind, designated}
 use Rattle.kind_laws.specs.Found.{Holds}
 use Rattle.kind_laws.proofs.TypesTold.{same_elem-same}
 use Rattle.form_laws.proofs.Passing.{part_fits, AreFit, fit-append}

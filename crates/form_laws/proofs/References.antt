@@ -16,11 +16,11 @@ use Rattle.hlfir_ops.specs.declared.what.What.TheVariants as what
 use Rattle.hlfir_ops.specs.declared.op.ValueId.{ValueId}
 use Rattle.hlfir_ops.specs.RulesValues.{Value, Declares, value_at, kind_of, same_elem, rank_of, is_reference, is_allocatable, is_place}
 use Rattle.hlfir_ops.specs.RulesForms.{has_dimension, is_boxed, is_scalar_of, has_constant}
-use Rattle.lower_assign.specs.declared.operand.Operand.{Operand}
-use Rattle.lower_assign.specs.Scopes.{Scope, index_of}
-use Rattle.lower_assign.specs.Lowerings.{Lowered, done, ◌>>=◌, scoped, giving}
-use Rattle.lower_assign.specs.Operations.{constant}
-use Rattle.lower_assign.specs.References.{variable_of, or_nothing, declare_of, box_of, boxed, reference, load_of, loaded, truth_of, variable_or_truth, index_or_other, named, bound, size, is_allocated}
+use Rattle.lower_values.specs.declared.operand.Operand.{Operand}
+use Rattle.lower_values.specs.Scopes.{Scope, index_of}
+use Rattle.lower_values.specs.Lowerings.{Lowered, done, ◌>>=◌, scoped, giving}
+use Rattle.lower_values.specs.Operations.{constant}
+use Rattle.lower_values.specs.References.{variable_of, or_nothing, declare_of, box_of, boxed, reference, load_of, loaded, truth_of, variable_or_truth, index_or_other, named, bound, size, is_allocated}
 use Rattle.kind_laws.specs.Standing.{FitsEntry, EntryIsKnown, NameIsKnown}
 use Rattle.kind_laws.specs.Found.{Holds, ScopeIsFound}
 use Rattle.form_laws.proofs.Passing.{part_fits, AreFit, fit-none, fit-op}

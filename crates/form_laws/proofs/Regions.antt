@@ -8,9 +8,9 @@ use Rattle.hlfir_ops.specs.declared.op.ValueId.{ValueId}
 use Rattle.hlfir_ops.specs.Numbers.{names_in, own_numbers, numbers_of}
 use Rattle.hlfir_ops.specs.RulesValues.{Value}
 use Rattle.hlfir_ops.specs.RulesPlaces.{is_elemental}
-use Rattle.lower_assign.specs.declared.operand.Operand.{Operand}
-use Rattle.lower_assign.specs.Scopes.{Scope, inside}
-use Rattle.lower_assign.specs.Lowerings.{Lowering, done, ◌>>=◌, scoped, in_turn, acting, regions_from, statement_of}
+use Rattle.lower_values.specs.declared.operand.Operand.{Operand}
+use Rattle.lower_values.specs.Scopes.{Scope, inside}
+use Rattle.lower_values.specs.Lowerings.{Lowering, done, ◌>>=◌, scoped, in_turn, acting, regions_from, statement_of}
 use Rattle.lower_assign.specs.Statements.{yielded, all_yielded}
 use Rattle.kind_laws.specs.Found.{Holds, HoldsNames, RegionsHeld}
 use Rattle.kind_laws.proofs.ScopesFound.{regions_are_held}

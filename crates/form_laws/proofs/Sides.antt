@@ -9,13 +9,13 @@ use Rattle.ws_types.specs.Expressions.{faults}
 use Rattle.ws_types.specs.Lists.{given_faults}
 use Rattle.hlfir_ops.specs.declared.kinds.Elem.TheVariants.{I32}
 use Rattle.hlfir_ops.specs.RulesValues.{Value, kind_of}
-use Rattle.lower_assign.specs.declared.operand.Operand.{Operand}
-use Rattle.lower_assign.specs.Scopes.{Scope}
-use Rattle.lower_assign.specs.Lowerings.{done}
-use Rattle.lower_assign.specs.Operations.{constant}
-use Rattle.lower_assign.specs.References.{nothing, variable_of, or_nothing, declare_of, boxed}
-use Rattle.lower_assign.specs.Values.{value}
-use Rattle.lower_assign.specs.Lists.{stride}
+use Rattle.lower_values.specs.declared.operand.Operand.{Operand}
+use Rattle.lower_values.specs.Scopes.{Scope}
+use Rattle.lower_values.specs.Lowerings.{done}
+use Rattle.lower_values.specs.Operations.{constant}
+use Rattle.lower_values.specs.References.{nothing, variable_of, or_nothing, declare_of, boxed}
+use Rattle.lower_values.specs.Values.{value}
+use Rattle.lower_values.specs.Lists.{stride}
 use Rattle.lower_assign.specs.Statements.{whole_left, left_of, left}
 use Rattle.form_laws.proofs.Passing.{AreFit, fit-none}
 use Rattle.kind_laws.proofs.Sides.{sides_are_expressions}

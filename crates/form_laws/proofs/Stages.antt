@@ -11,7 +11,7 @@ use Rattle.hlfir_ops.specs.declared.what.What.{What}
 use Rattle.hlfir_ops.specs.declared.what.What.TheVariants as what
 use Rattle.hlfir_ops.specs.Numbers.{names_in}
 use Rattle.hlfir_ops.specs.RulesValues.{Value}
-use Rattle.lower_assign.specs.Scopes.{Scope, inside}
+use Rattle.lower_values.specs.Scopes.{Scope, inside}
 use Rattle.kind_laws.specs.Standing.{Knows}
 use Rattle.kind_laws.specs.Found.{HoldsNames, ScopeIsFound}
 use Rattle.kind_laws.specs.Laws.{index_names}

@@ -25,12 +25,12 @@ use Rattle.hlfir_ops.specs.Numbers.{numbers_of}
 use Rattle.hlfir_ops.specs.RulesValues.{Value, Declares, value_at, rank_of, is_allocatable, is_allocatable_declare}
 use Rattle.hlfir_ops.specs.RulesRegions.{parts}
 use Rattle.hlfir_ops.specs.RulesForms.{has_pairs}
-use Rattle.lower_assign.specs.declared.operand.Operand.{Operand}
-use Rattle.lower_assign.specs.Scopes.{Scope, inside}
-use Rattle.lower_assign.specs.Lowerings.{Lowering, done, ◌>>=◌, statement_of}
-use Rattle.lower_assign.specs.Operations.{constant}
-use Rattle.lower_assign.specs.References.{declare_of}
-use Rattle.lower_assign.specs.Values.{value}
+use Rattle.lower_values.specs.declared.operand.Operand.{Operand}
+use Rattle.lower_values.specs.Scopes.{Scope, inside}
+use Rattle.lower_values.specs.Lowerings.{Lowering, done, ◌>>=◌, statement_of}
+use Rattle.lower_values.specs.Operations.{constant}
+use Rattle.lower_values.specs.References.{declare_of}
+use Rattle.lower_values.specs.Values.{value}
 use Rattle.lower_assign.specs.Statements.{yielded, all_yielded, left, item, is_whole_allocatable, assignment, bounds_of, all_bounds, allocation, deallocation, reading}
 use Rattle.small_laws.proofs.Tables as tables
 use Rattle.kind_laws.proofs.TypeFacts.{same_type, no_type}

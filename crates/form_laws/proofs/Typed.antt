@@ -12,10 +12,10 @@ use Rattle.hlfir_ops.specs.declared.what.ValueBinary.{ValueBinary}
 use Rattle.hlfir_ops.specs.declared.what.What.TheVariants as what
 use Rattle.hlfir_ops.specs.RulesValues.{Value, elem_of, rank_of}
 use Rattle.hlfir_ops.specs.RulesForms.{unary_elem, operand_elem, result_elem}
-use Rattle.lower_assign.specs.declared.operand.Operand.{Operand}
+use Rattle.lower_values.specs.declared.operand.Operand.{Operand}
 use Rattle.lower_assign.specs.Known.{elem}
-use Rattle.lower_assign.specs.Scopes.{Scope}
-use Rattle.lower_assign.specs.Operations.{operation, rank_from, binary_of, binary_operation}
+use Rattle.lower_values.specs.Scopes.{Scope}
+use Rattle.lower_values.specs.Operations.{operation, rank_from, binary_of, binary_operation}
 use Rattle.kind_laws.specs.Found.{Holds}
 use Rattle.form_laws.proofs.Operands.{Stands}
 use Rattle.form_laws.proofs.Elementals.{HasRank, Conform}

@@ -19,13 +19,13 @@ use Rattle.hlfir_ops.specs.declared.what.ValueBinary.{ValueBinary}
 use Rattle.hlfir_ops.specs.Numbers.{numbers_of}
 use Rattle.hlfir_ops.specs.RulesValues.{Value, rank_of, is_reference}
 use Rattle.hlfir_ops.specs.RulesForms.{operand_elem, result_elem}
-use Rattle.lower_assign.specs.declared.operand.Operand.{Operand}
-use Rattle.lower_assign.specs.declared.operand.Subscript.{Subscript}
-use Rattle.lower_assign.specs.Scopes.{Scope}
-use Rattle.lower_assign.specs.Lowerings.{Lowering, done, ◌>>=◌}
-use Rattle.lower_assign.specs.Operations.{constant, binary_of, binary_operation, in_parentheses, unary_operation, nesting_of, joined, call_on, vector}
-use Rattle.lower_assign.specs.References.{loaded, named, subscript_of, bound, inquiry}
-use Rattle.lower_assign.specs.Values.{value, values, nested, subscripts, given_or, part_of}
+use Rattle.lower_values.specs.declared.operand.Operand.{Operand}
+use Rattle.lower_values.specs.declared.operand.Subscript.{Subscript}
+use Rattle.lower_values.specs.Scopes.{Scope}
+use Rattle.lower_values.specs.Lowerings.{Lowering, done, ◌>>=◌}
+use Rattle.lower_values.specs.Operations.{constant, binary_of, binary_operation, in_parentheses, unary_operation, nesting_of, joined, call_on, vector}
+use Rattle.lower_values.specs.References.{loaded, named, subscript_of, bound, inquiry}
+use Rattle.lower_values.specs.Values.{value, values, nested, subscripts, given_or, part_of}
 use Rattle.kind_laws.specs.Found.{Holds}
 use Rattle.kind_laws.proofs.TypedExpressions.{types_are_known}
 use Rattle.kind_laws.proofs.Held.{held-first, held-rest}

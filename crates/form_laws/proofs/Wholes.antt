@@ -7,10 +7,10 @@ use Rattle.hlfir_ops.specs.declared.kinds.ValueKind.TheVariants as kind
 use Rattle.hlfir_ops.specs.declared.what.What.TheVariants as what
 use Rattle.hlfir_ops.specs.RulesValues.{Value, elem_of, rank_of, is_reference, same_elem}
 use Rattle.hlfir_ops.specs.RulesForms.{is_array_of, rank_of_kind}
-use Rattle.lower_assign.specs.declared.operand.Operand.{Operand}
-use Rattle.lower_assign.specs.Scopes.{Scope}
-use Rattle.lower_assign.specs.Lowerings.{giving}
-use Rattle.lower_assign.specs.Operations.{in_parentheses, value_of_whole, as_expr}
+use Rattle.lower_values.specs.declared.operand.Operand.{Operand}
+use Rattle.lower_values.specs.Scopes.{Scope}
+use Rattle.lower_values.specs.Lowerings.{giving}
+use Rattle.lower_values.specs.Operations.{in_parentheses, value_of_whole, as_expr}
 use Rattle.form_laws.proofs.Passing.{fit-op}
 use Rattle.form_laws.proofs.Operands.{IsSolid, Stands}
 use Rattle.form_laws.proofs.Walking.{Good, done-good}

@@ -5,10 +5,10 @@ use Rattle.ws_types.specs.declared.types.Arguments.{Arguments}
 use Rattle.ws_types.specs.Operations.{no_arguments, with_argument, vector_type, item_limit}
 use Rattle.hlfir_ops.specs.declared.kinds.ValueKind.TheVariants.{Array}
 use Rattle.hlfir_ops.specs.RulesValues.{rank_of}
-use Rattle.lower_assign.specs.declared.operand.Operand.{Operand}
+use Rattle.lower_values.specs.declared.operand.Operand.{Operand}
 use Rattle.lower_assign.specs.Known.{elem}
-use Rattle.lower_assign.specs.Scopes.{Scope}
-use Rattle.lower_assign.specs.Operations.{rank_from, first_elem, vector}
+use Rattle.lower_values.specs.Scopes.{Scope}
+use Rattle.lower_values.specs.Operations.{rank_from, first_elem, vector}
 use Rattle.kind_laws.proofs.TypeFacts.{same_type, chosen_type, not_chosen}
 use Rattle.kind_laws.proofs.Made.{Makes, IsOf, makes-giving, array_type}
 

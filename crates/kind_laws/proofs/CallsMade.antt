@@ -13,12 +13,12 @@ use Rattle.ws_types.specs.Names.{name_type}
 use Rattle.ws_types.specs.Expressions.{first_standing}
 use Rattle.hlfir_ops.specs.declared.kinds.Elem.TheVariants.{I32, I1}
 use Rattle.hlfir_ops.specs.declared.kinds.ValueKind.TheVariants.{Scalar}
-use Rattle.lower_assign.specs.declared.operand.Operand.{Operand}
+use Rattle.lower_values.specs.declared.operand.Operand.{Operand}
 use Rattle.lower_assign.specs.Known.{elem}
-use Rattle.lower_assign.specs.Scopes.{Scope}
-use Rattle.lower_assign.specs.Lowerings.{scoped, ◌>>=◌}
-use Rattle.lower_assign.specs.Operations.{nesting_of, call_on, operation, what_of, call_elem}
-use Rattle.lower_assign.specs.References.{bound_word, bound_or_size, size, bound, dimension_in, inquiry, reference, is_allocated, declare_of}
+use Rattle.lower_values.specs.Scopes.{Scope}
+use Rattle.lower_values.specs.Lowerings.{scoped, ◌>>=◌}
+use Rattle.lower_values.specs.Operations.{nesting_of, call_on, operation, what_of, call_elem}
+use Rattle.lower_values.specs.References.{bound_word, bound_or_size, size, bound, dimension_in, inquiry, reference, is_allocated, declare_of}
 use Rattle.kind_laws.proofs.NoFaults.{left_false}
 use Rattle.kind_laws.proofs.TypeFacts.{same_type, no_type, chosen_type, not_chosen}
 use Rattle.kind_laws.proofs.Made.{Makes, makes-then, makes-scoped, makes-giving, IsOf, scalar_type, operation_made}

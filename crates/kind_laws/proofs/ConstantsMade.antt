@@ -15,10 +15,10 @@ use Rattle.ws_types.specs.Constants.{constancy, is_sign, is_arithmetic, signed, 
 use Rattle.ws_types.specs.Operations.{gives_truth}
 use Rattle.ws_types.specs.Expressions.{number_limit, typed, faults}
 use Rattle.hlfir_ops.specs.declared.kinds.Elem.TheVariants.{I32}
-use Rattle.lower_assign.specs.declared.operand.Operand.{Operand}
-use Rattle.lower_assign.specs.Scopes.{Scope}
-use Rattle.lower_assign.specs.Lowerings.{Lowering}
-use Rattle.lower_assign.specs.Values.{constant_or, folded}
+use Rattle.lower_values.specs.declared.operand.Operand.{Operand}
+use Rattle.lower_values.specs.Scopes.{Scope}
+use Rattle.lower_values.specs.Lowerings.{Lowering}
+use Rattle.lower_values.specs.Values.{constant_or, folded}
 use Rattle.kind_laws.specs.Standing.{Knows}
 use Rattle.kind_laws.proofs.NoFaults.{none_first, none_after}
 use Rattle.kind_laws.proofs.TypedExpressions.{type_known}

@@ -12,10 +12,10 @@ use Rattle.hlfir_ops.specs.Trees.{op_of}
 use Rattle.hlfir_ops.specs.Numbers.{numbers_of}
 use Rattle.hlfir_ops.specs.RulesValues.{Value}
 use Rattle.hlfir_ops.proofs.Numbered.{op_numbers-op_of}
-use Rattle.lower_assign.specs.declared.names.Variable.{Variable}
+use Rattle.lower_values.specs.declared.names.Variable.{Variable}
 use Rattle.lower_assign.specs.Known.{variable, variable_decls, numbered, names_of}
-use Rattle.lower_assign.specs.Scopes.{Scope, scope_at}
-use Rattle.lower_assign.specs.Lowerings.{Lowering, done, ◌>>=◌, in_turn}
+use Rattle.lower_values.specs.Scopes.{Scope, scope_at}
+use Rattle.lower_values.specs.Lowerings.{Lowering, done, ◌>>=◌, in_turn}
 use Rattle.kind_laws.specs.Found.{Holds, DeclareIsFound, IndexIsFound, ScopeIsFound}
 use Rattle.kind_laws.proofs.Finding.{holds_after, own_value}
 

@@ -11,9 +11,9 @@ use Rattle.hlfir_ops.specs.declared.op.Op.{Op, Op-F, out-Op, out-roll-Op}
 use Rattle.hlfir_ops.specs.declared.op.Region.{Region, out-Region, out-roll-Region}
 use Rattle.hlfir_ops.specs.Trees.{op_of, region_of}
 use Rattle.hlfir_ops.specs.RulesRegions.{ops_in, is_yield, is_yield_element, gives_value, last_of, front_of, is_last, parts_of, parts, yields}
-use Rattle.lower_assign.specs.declared.operand.Operand.{Operand}
-use Rattle.lower_assign.specs.Scopes.{Scope}
-use Rattle.lower_assign.specs.Lowerings.{Lowering, ◌>>=◌, acting}
+use Rattle.lower_values.specs.declared.operand.Operand.{Operand}
+use Rattle.lower_values.specs.Scopes.{Scope}
+use Rattle.lower_values.specs.Lowerings.{Lowering, ◌>>=◌, acting}
 use Rattle.lower_assign.specs.Statements.{yielded, all_yielded}
 
 -- ---- the last one and those before it

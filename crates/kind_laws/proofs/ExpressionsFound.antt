@@ -17,12 +17,12 @@ use Rattle.hlfir_ops.specs.declared.what.ValueBinary.{ValueBinary}
 use Rattle.hlfir_ops.specs.declared.what.What.TheVariants as what
 use Rattle.hlfir_ops.specs.RulesValues.{Value}
 use Rattle.hlfir_ops.specs.RulesForms.{result_elem}
-use Rattle.lower_assign.specs.declared.operand.Operand.{Operand}
-use Rattle.lower_assign.specs.Scopes.{Scope}
-use Rattle.lower_assign.specs.Lowerings.{Lowering, ◌>>=◌}
-use Rattle.lower_assign.specs.Operations.{binary_of, binary_operation, in_parentheses, unary_operation, nesting_of, joined, call_on, vector}
-use Rattle.lower_assign.specs.References.{loaded, named, reference, designated, inquiry}
-use Rattle.lower_assign.specs.Values.{call_by, part_of, value, values, nested, subscripts}
+use Rattle.lower_values.specs.declared.operand.Operand.{Operand}
+use Rattle.lower_values.specs.Scopes.{Scope}
+use Rattle.lower_values.specs.Lowerings.{Lowering, ◌>>=◌}
+use Rattle.lower_values.specs.Operations.{binary_of, binary_operation, in_parentheses, unary_operation, nesting_of, joined, call_on, vector}
+use Rattle.lower_values.specs.References.{loaded, named, reference, designated, inquiry}
+use Rattle.lower_values.specs.Values.{call_by, part_of, value, values, nested, subscripts}
 use Rattle.kind_laws.specs.Standing.{Knows}
 use Rattle.kind_laws.specs.Found.{Found, ScopeIsFound}
 use Rattle.kind_laws.specs.Laws.{ValuesAreFound}

@@ -21,14 +21,14 @@ use Rattle.hlfir_ops.specs.declared.kinds.Elem.TheVariants.{I32, I1}
 use Rattle.hlfir_ops.specs.declared.what.BoundWord.TheVariants.{Lower, Upper}
 use Rattle.hlfir_ops.specs.declared.what.ValueBinary.{ValueBinary}
 use Rattle.hlfir_ops.specs.RulesForms.{result_elem}
-use Rattle.lower_assign.specs.declared.operand.Operand.{Operand}
-use Rattle.lower_assign.specs.declared.operand.Subscript.{Subscript}
-use Rattle.lower_assign.specs.declared.operand.Subscript.TheVariants.{Range}
-use Rattle.lower_assign.specs.Scopes.{Scope}
-use Rattle.lower_assign.specs.Lowerings.{Lowering, done, ◌>>=◌}
-use Rattle.lower_assign.specs.Operations.{constant, binary_of, binary_operation, in_parentheses, unary_operation, nesting_of, joined, call_on, vector}
-use Rattle.lower_assign.specs.References.{reference, loaded, named, bound, subscript_of, sub_kind, added_rank, designated, inquiry}
-use Rattle.lower_assign.specs.Values.{part_of, value, values, nested, subscripts, subscript, given_or}
+use Rattle.lower_values.specs.declared.operand.Operand.{Operand}
+use Rattle.lower_values.specs.declared.operand.Subscript.{Subscript}
+use Rattle.lower_values.specs.declared.operand.Subscript.TheVariants.{Range}
+use Rattle.lower_values.specs.Scopes.{Scope}
+use Rattle.lower_values.specs.Lowerings.{Lowering, done, ◌>>=◌}
+use Rattle.lower_values.specs.Operations.{constant, binary_of, binary_operation, in_parentheses, unary_operation, nesting_of, joined, call_on, vector}
+use Rattle.lower_values.specs.References.{reference, loaded, named, bound, subscript_of, sub_kind, added_rank, designated, inquiry}
+use Rattle.lower_values.specs.Values.{part_of, value, values, nested, subscripts, subscript, given_or}
 use Rattle.kind_laws.specs.Standing.{Knows}
 use Rattle.kind_laws.specs.Laws.{KindsAreTypes}
 use Rattle.kind_laws.proofs.NoFaults.{none_first, none_after}

@@ -29,13 +29,13 @@ use Rattle.hlfir_ops.specs.declared.what.What.{What}
 use Rattle.hlfir_ops.specs.declared.what.What.TheVariants as what
 use Rattle.hlfir_ops.specs.declared.op.ValueId.{ValueId}
 use Rattle.hlfir_ops.specs.RulesValues.{Value as Value', Declares, Other, source_of, is_declares, value_at}
-use Rattle.lower_assign.specs.declared.names.Variable.{Variable}
-use Rattle.lower_assign.specs.declared.operand.Operand.{Operand}
-use Rattle.lower_assign.specs.Scopes.{Scope, Indexed, index_of}
-use Rattle.lower_assign.specs.Lowerings.{Lowering, ◌>>=◌, scoped, giving}
-use Rattle.lower_assign.specs.Operations.{constant, rank_from, on_scalars, at_each, operation, value_of_whole, in_parentheses, unary_operation, reduction_of, what_of, call_elem, total_or, call_on, vector}
-use Rattle.lower_assign.specs.References.{variable_of, declare_of, boxed, loaded, truth_of, variable_or_truth, index_or_other, named, reference, bound, bound_word, bound_or_size, is_allocated, dimension_in, inquiry, designated}
-use Rattle.lower_assign.specs.Values.{constant_or, folded}
+use Rattle.lower_values.specs.declared.names.Variable.{Variable}
+use Rattle.lower_values.specs.declared.operand.Operand.{Operand}
+use Rattle.lower_values.specs.Scopes.{Scope, Indexed, index_of}
+use Rattle.lower_values.specs.Lowerings.{Lowering, ◌>>=◌, scoped, giving}
+use Rattle.lower_values.specs.Operations.{constant, rank_from, on_scalars, at_each, operation, value_of_whole, in_parentheses, unary_operation, reduction_of, what_of, call_elem, total_or, call_on, vector}
+use Rattle.lower_values.specs.References.{variable_of, declare_of, boxed, loaded, truth_of, variable_or_truth, index_or_other, named, reference, bound, bound_word, bound_or_size, is_allocated, dimension_in, inquiry, designated}
+use Rattle.lower_values.specs.Values.{constant_or, folded}
 use Rattle.kind_laws.specs.Found.{Found, DeclareIsFound, IndexIsFound, ScopeIsFound}
 use Rattle.kind_laws.specs.Standing.{FitsEntry, EntryIsKnown, NameIsKnown}
 use Rattle.kind_laws.proofs.NoFaults.{none_first, none_after, impossible}

@@ -25,16 +25,16 @@ use Rattle.hlfir_ops.specs.declared.kinds.Elem.TheVariants.{I32, I1}
 use Rattle.hlfir_ops.specs.declared.what.ValueBinary.{ValueBinary}
 use Rattle.hlfir_ops.specs.RulesValues.{rank_of}
 use Rattle.hlfir_ops.specs.RulesForms.{result_elem, section_rank}
-use Rattle.lower_assign.specs.declared.operand.Operand.{Operand}
-use Rattle.lower_assign.specs.declared.operand.Subscript.{Subscript}
-use Rattle.lower_assign.specs.declared.operand.Subscript.TheVariants.{One, Vector}
+use Rattle.lower_values.specs.declared.operand.Operand.{Operand}
+use Rattle.lower_values.specs.declared.operand.Subscript.{Subscript}
+use Rattle.lower_values.specs.declared.operand.Subscript.TheVariants.{One, Vector}
 use Rattle.lower_assign.specs.Known.{elem}
-use Rattle.lower_assign.specs.Scopes.{Scope}
-use Rattle.lower_assign.specs.Lowerings.{Lowering}
-use Rattle.lower_assign.specs.Operations.{rank_from, binary_of, binary_operation, unary_operation, nesting_of, joined}
-use Rattle.lower_assign.specs.References.{sub_kind, added_rank, subscript_of, designated}
-use Rattle.lower_assign.specs.Values.{call_by}
-use Rattle.lower_assign.proofs.Named.{section_rank-more}
+use Rattle.lower_values.specs.Scopes.{Scope}
+use Rattle.lower_values.specs.Lowerings.{Lowering}
+use Rattle.lower_values.specs.Operations.{rank_from, binary_of, binary_operation, unary_operation, nesting_of, joined}
+use Rattle.lower_values.specs.References.{sub_kind, added_rank, subscript_of, designated}
+use Rattle.lower_values.specs.Values.{call_by}
+use Rattle.lower_values.proofs.Named.{section_rank-more}
 use Rattle.kind_laws.proofs.NoFaults.{none_first, none_after, not_broken, impossible, not_false}
 use Rattle.kind_laws.proofs.TypedExpressions.{type_known}
 use Rattle.kind_laws.proofs.TypeFacts.{no_type, joined_types, selected}

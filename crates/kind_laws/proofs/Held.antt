@@ -7,8 +7,8 @@ use Rattle.hlfir_ops.specs.declared.op.ValueId.{ValueId}
 use Rattle.hlfir_ops.specs.declared.op.Op.{Op}
 use Rattle.hlfir_ops.specs.Numbers.{own_numbers, numbers_of}
 use Rattle.hlfir_ops.specs.RulesValues.{Value, source_of, value_at, values_of}
-use Rattle.lower_assign.specs.Scopes.{Scope}
-use Rattle.lower_assign.specs.Lowerings.{Lowering, ◌>>=◌, giving, statement_of}
+use Rattle.lower_values.specs.Scopes.{Scope}
+use Rattle.lower_values.specs.Lowerings.{Lowering, ◌>>=◌, giving, statement_of}
 use Rattle.kind_laws.specs.Found.{Holds, RegionsHeld}
 use Rattle.kind_laws.proofs.Finding.{holds_first, holds_after, own_value}
 use Rattle.kind_laws.proofs.ScopesFound.{regions_are_held}

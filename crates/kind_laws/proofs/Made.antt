@@ -11,12 +11,12 @@ use Rattle.hlfir_ops.specs.declared.what.What.{What}
 use Rattle.hlfir_ops.specs.declared.op.ValueId.{ValueId}
 use Rattle.hlfir_ops.specs.Numbers.{numbers_of}
 use Rattle.hlfir_ops.specs.RulesValues.{elem_of, rank_of, is_reference}
-use Rattle.lower_assign.specs.declared.operand.Operand.{Operand}
+use Rattle.lower_values.specs.declared.operand.Operand.{Operand}
 use Rattle.lower_assign.specs.Known.{elem}
-use Rattle.lower_assign.specs.Scopes.{Scope}
-use Rattle.lower_assign.specs.Lowerings.{Lowering, done, ◌>>=◌, scoped, giving, giving_by}
-use Rattle.lower_assign.specs.Operations.{constant, rank_from, on_scalars, at_each, operation, value_of_whole, in_parentheses}
-use Rattle.lower_assign.specs.References.{boxed, loaded, part_kind}
+use Rattle.lower_values.specs.Scopes.{Scope}
+use Rattle.lower_values.specs.Lowerings.{Lowering, done, ◌>>=◌, scoped, giving, giving_by}
+use Rattle.lower_values.specs.Operations.{constant, rank_from, on_scalars, at_each, operation, value_of_whole, in_parentheses}
+use Rattle.lower_values.specs.References.{boxed, loaded, part_kind}
 use Rattle.kind_laws.specs.Laws.{HasType}
 use Rattle.kind_laws.specs.Standing.{FitsEntry}
 

@@ -10,10 +10,10 @@ use Rattle.ws_types.specs.declared.types.Standing.TheVariants.{Declared, Active,
 use Rattle.ws_types.specs.Names.{Name, name_type, entry_type, integer}
 use Rattle.ws_types.specs.Constants.{constant_of}
 use Rattle.hlfir_ops.specs.declared.kinds.Elem.TheVariants.{I32, I1}
-use Rattle.lower_assign.specs.declared.names.Names.{Names}
+use Rattle.lower_values.specs.declared.names.Names.{Names}
 use Rattle.lower_assign.specs.Known.{elem}
-use Rattle.lower_assign.specs.Scopes.{Scope, index_of}
-use Rattle.lower_assign.specs.References.{variable_of, declare_of, boxed, reference, truth_of, variable_or_truth, index_or_other, named}
+use Rattle.lower_values.specs.Scopes.{Scope, index_of}
+use Rattle.lower_values.specs.References.{variable_of, declare_of, boxed, reference, truth_of, variable_or_truth, index_or_other, named}
 use Rattle.kind_laws.specs.Standing.{ConstantIsKnown, EntryIsKnown, NameIsKnown}
 use Rattle.kind_laws.proofs.TypeFacts.{same_type, no_type}
 use Rattle.kind_laws.proofs.Made.{Makes, makes-scoped, makes-done, IsOf, IsReferenceTo, scalar_type, constant_made, variable_made, array_made}

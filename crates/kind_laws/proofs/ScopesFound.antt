@@ -21,12 +21,12 @@ use Rattle.hlfir_ops.specs.declared.op.Region.{Region, out-roll-Region}
 use Rattle.hlfir_ops.specs.Trees.{op_of}
 use Rattle.hlfir_ops.specs.Numbers.{names_in, own_numbers, numbers_of}
 use Rattle.hlfir_ops.specs.RulesValues.{Value, Declares, own_values, op_values, values_of, values_in, value_at, value_of_name}
-use Rattle.lower_assign.specs.declared.operand.Operand.{Operand}
+use Rattle.lower_values.specs.declared.operand.Operand.{Operand}
 use Rattle.lower_assign.specs.Known.{elem}
-use Rattle.lower_assign.specs.Scopes.{Scope, Indexed, inside}
-use Rattle.lower_assign.specs.Scopes as scopes
-use Rattle.lower_assign.specs.Lowerings.{Lowering, regions_from}
-use Rattle.lower_assign.specs.References.{declare_of, or_nothing}
+use Rattle.lower_values.specs.Scopes.{Scope, Indexed, inside}
+use Rattle.lower_values.specs.Scopes as scopes
+use Rattle.lower_values.specs.Lowerings.{Lowering, regions_from}
+use Rattle.lower_values.specs.References.{declare_of, or_nothing}
 use Rattle.kind_laws.specs.Standing.{FitsEntry, EntryIsKnown, NameIsKnown}
 use Rattle.kind_laws.specs.Found.{Holds, HoldsNames, RegionsHeld, IndexIsFound, ScopeIsFound, IsDeclareOf}
 use Rattle.kind_laws.specs.Laws.{InsideIsFound, RegionsAreHeld, DeclaresAreFound, AllocatablesAreFound, LoopVariablesAreFound, IsVariable}

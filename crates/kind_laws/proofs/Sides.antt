@@ -19,13 +19,13 @@ use Rattle.hlfir_ops.specs.declared.what.What.TheVariants as what
 use Rattle.hlfir_ops.specs.declared.op.ValueId.{ValueId}
 use Rattle.hlfir_ops.specs.RulesValues.{Value, Declares, Designates, Other, value_at, has_vector, elem_of, rank_of, is_target, is_designates}
 use Rattle.hlfir_ops.specs.RulesForms.{section_rank}
-use Rattle.lower_assign.specs.declared.operand.Operand.{Operand}
-use Rattle.lower_assign.specs.declared.operand.Subscript.{Subscript}
+use Rattle.lower_values.specs.declared.operand.Operand.{Operand}
+use Rattle.lower_values.specs.declared.operand.Subscript.{Subscript}
 use Rattle.lower_assign.specs.Known.{elem}
-use Rattle.lower_assign.specs.Scopes.{Scope}
-use Rattle.lower_assign.specs.Lowerings.{◌>>=◌}
-use Rattle.lower_assign.specs.References.{boxed, declare_of, part_kind, sub_kind, reference, designated}
-use Rattle.lower_assign.specs.Values.{part_of, subscripts}
+use Rattle.lower_values.specs.Scopes.{Scope}
+use Rattle.lower_values.specs.Lowerings.{◌>>=◌}
+use Rattle.lower_values.specs.References.{boxed, declare_of, part_kind, sub_kind, reference, designated}
+use Rattle.lower_values.specs.Values.{part_of, subscripts}
 use Rattle.lower_assign.specs.Statements.{whole_left, left_of}
 use Rattle.kind_laws.specs.Found.{IsDeclareOf, IsLeftOf}
 use Rattle.kind_laws.specs.Laws.{SidesAreExpressions, LeftsAreFound, IsVariable}

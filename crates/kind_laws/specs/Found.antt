@@ -13,11 +13,11 @@ use Rattle.hlfir_ops.specs.declared.what.What.{What}
 use Rattle.hlfir_ops.specs.declared.op.Op.{Op}
 use Rattle.hlfir_ops.specs.Numbers.{names_in, numbers_of}
 use Rattle.hlfir_ops.specs.RulesValues.{Value, Source, Declares, Other, values_of, value_at, value_of_name, elem_of, rank_of, is_target, is_designates, is_allocatable, is_allocatable_declare}
-use Rattle.lower_assign.specs.declared.names.Variable.{Variable}
-use Rattle.lower_assign.specs.declared.operand.Operand.{Operand}
+use Rattle.lower_values.specs.declared.names.Variable.{Variable}
+use Rattle.lower_values.specs.declared.operand.Operand.{Operand}
 use Rattle.lower_assign.specs.Known.{elem}
-use Rattle.lower_assign.specs.Scopes.{Scope, Indexed, inside}
-use Rattle.lower_assign.specs.Lowerings.{Lowering}
+use Rattle.lower_values.specs.Scopes.{Scope, Indexed, inside}
+use Rattle.lower_values.specs.Lowerings.{Lowering}
 use Rattle.kind_laws.specs.Standing.{FitsEntry}
 
 -- the values of these ops stand among all values from this number on

@@ -26,10 +26,10 @@ use Rattle.hlfir_ops.specs.declared.op.Op.{Op}
 use Rattle.hlfir_ops.specs.Numbers.{names_in, own_numbers}
 use Rattle.hlfir_ops.specs.RulesValues.{Value, Declares, value_at, elem_of, rank_of, is_place}
 use Rattle.lower_assign.specs.Known.{elem, names_of}
-use Rattle.lower_assign.specs.Scopes.{Scope, inside, scope_at}
-use Rattle.lower_assign.specs.Lowerings.{Lowering, holding}
-use Rattle.lower_assign.specs.References.{declare_of}
-use Rattle.lower_assign.specs.Values.{value}
+use Rattle.lower_values.specs.Scopes.{Scope, inside, scope_at}
+use Rattle.lower_values.specs.Lowerings.{Lowering, holding}
+use Rattle.lower_values.specs.References.{declare_of}
+use Rattle.lower_values.specs.Values.{value}
 use Rattle.lower_assign.specs.Statements.{left_of}
 use Rattle.kind_laws.specs.Standing.{Knows}
 use Rattle.kind_laws.specs.Found.{Holds, HoldsNames, RegionsHeld, Found, ScopeIsFound, IsDeclareOf, IsLeftOf}

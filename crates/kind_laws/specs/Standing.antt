@@ -10,11 +10,11 @@ use Rattle.ws_types.specs.Constants.{constant_of}
 use Rattle.hlfir_ops.specs.declared.kinds.ValueKind.{ValueKind}
 use Rattle.hlfir_ops.specs.declared.kinds.ValueKind.TheVariants as kind
 use Rattle.hlfir_ops.specs.declared.op.ValueId.{ValueId}
-use Rattle.lower_assign.specs.declared.names.Names.{Names}
-use Rattle.lower_assign.specs.declared.operand.Operand.{Operand}
+use Rattle.lower_values.specs.declared.names.Names.{Names}
+use Rattle.lower_values.specs.declared.operand.Operand.{Operand}
 use Rattle.lower_assign.specs.Known.{elem}
-use Rattle.lower_assign.specs.References.{variable_of}
-use Rattle.lower_assign.specs.Scopes.{Scope, index_of}
+use Rattle.lower_values.specs.References.{variable_of}
+use Rattle.lower_values.specs.Scopes.{Scope, index_of}
 
 -- the kind of a declare is that of the declaration
 abbrev pub FitsEntry : Entry → ValueKind → Type 0

@@ -27,13 +27,13 @@ use Rattle.hlfir_ops.specs.declared.op.ValueId.{ValueId}
 use Rattle.hlfir_ops.specs.Numbers.{numbers_of}
 use Rattle.hlfir_ops.specs.RulesValues.{Value, rank_of, is_whole, value_at}
 use Rattle.hlfir_ops.specs.RulesLimits.{item_limit}
-use Rattle.lower_assign.specs.declared.operand.Operand.{Operand}
-use Rattle.lower_assign.specs.declared.operand.Subscript.TheVariants.{One, Vector}
-use Rattle.lower_assign.specs.Scopes.{Scope}
-use Rattle.lower_assign.specs.Lowerings.{Lowering, Lowered, done, ◌>>=◌ as ◌then◌, giving}
-use Rattle.lower_assign.specs.Operations.{constant, values_of}
-use Rattle.lower_assign.specs.References.{variable_of, subscript_of, sub_values, bound}
-use Rattle.lower_assign.specs.Values.{constant_or, value, values}
+use Rattle.lower_values.specs.declared.operand.Operand.{Operand}
+use Rattle.lower_values.specs.declared.operand.Subscript.TheVariants.{One, Vector}
+use Rattle.lower_values.specs.Scopes.{Scope}
+use Rattle.lower_values.specs.Lowerings.{Lowering, Lowered, done, ◌>>=◌ as ◌then◌, giving}
+use Rattle.lower_values.specs.Operations.{constant, values_of}
+use Rattle.lower_values.specs.References.{variable_of, subscript_of, sub_values, bound}
+use Rattle.lower_values.specs.Values.{constant_or, value, values}
 use Rattle.small_laws.proofs.NoFaults.{none_first, none_after, not_broken, impossible}
 use Rattle.kind_laws.specs.Standing.{EntryIsKnown, NameIsKnown}
 use Rattle.kind_laws.specs.Found.{Holds}

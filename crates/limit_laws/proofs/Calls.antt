@@ -10,10 +10,10 @@ use Rattle.hlfir_ops.specs.declared.what.What.TheVariants as what
 use Rattle.hlfir_ops.specs.RulesValues.{Value}
 use Rattle.hlfir_ops.specs.RulesForms.{total_elem}
 use Rattle.hlfir_ops.specs.RulesLimits.{item_limit}
-use Rattle.lower_assign.specs.declared.operand.Operand.{Operand}
-use Rattle.lower_assign.specs.Scopes.{Scope}
-use Rattle.lower_assign.specs.Lowerings.{giving}
-use Rattle.lower_assign.specs.Operations.{values_of, what_of, first_elem, call_elem, total, operation, call_on, vector}
+use Rattle.lower_values.specs.declared.operand.Operand.{Operand}
+use Rattle.lower_values.specs.Scopes.{Scope}
+use Rattle.lower_values.specs.Lowerings.{giving}
+use Rattle.lower_values.specs.Operations.{values_of, what_of, first_elem, call_elem, total, operation, call_on, vector}
 use Rattle.limit_laws.proofs.Costs.{Priced, one_if}
 use Rattle.limit_laws.proofs.Costing.{costs-weaker, spends-giving}
 use Rattle.limit_laws.proofs.Operations.{IsPlain, priced, priced-operation}

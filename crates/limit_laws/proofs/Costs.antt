@@ -10,8 +10,8 @@ use Rattle.hlfir_ops.specs.declared.op.Region.{Region}
 use Rattle.hlfir_ops.specs.Numbers.{order_of, order_in}
 use Rattle.hlfir_ops.specs.RulesValues.{Value, value_at, is_whole}
 use Rattle.hlfir_ops.specs.RulesLimits.{item_limit}
-use Rattle.lower_assign.specs.declared.operand.Operand.{Operand}
-use Rattle.lower_assign.specs.Lowerings.{Lowered}
+use Rattle.lower_values.specs.declared.operand.Operand.{Operand}
+use Rattle.lower_values.specs.Lowerings.{Lowered}
 
 -- ---- totals over ops in printed order, regions included
 

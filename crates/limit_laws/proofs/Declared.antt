@@ -19,9 +19,9 @@ use Rattle.hlfir_ops.specs.RulesValues.{Value}
 use Rattle.hlfir_ops.specs.RulesPlaces.{Around, sites_of}
 use Rattle.hlfir_ops.specs.RulesStatements.{declares, is_declare}
 use Rattle.hlfir_ops.specs.RulesLimits.{declares_in, declare_limit}
-use Rattle.lower_assign.specs.declared.names.Variable.{Variable}
-use Rattle.lower_assign.specs.Scopes.{Scope}
-use Rattle.lower_assign.specs.Lowerings.{Lowering, done, ◌>>=◌ as ◌then◌, in_turn, giving}
+use Rattle.lower_values.specs.declared.names.Variable.{Variable}
+use Rattle.lower_values.specs.Scopes.{Scope}
+use Rattle.lower_values.specs.Lowerings.{Lowering, done, ◌>>=◌ as ◌then◌, in_turn, giving}
 use Rattle.lower_assign.specs.Known.{variable, declares_variable, if_variable, variable_decls, numbered}
 use Rattle.lower_constructs.specs.Modules.{declaration}
 use Rattle.small_laws.proofs.NoFaults.{none_first, none_after, not_broken}

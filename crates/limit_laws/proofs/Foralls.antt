@@ -24,11 +24,11 @@ use Rattle.hlfir_ops.specs.Trees.{op_of, region_of}
 use Rattle.hlfir_ops.specs.Numbers.{numbers_of, order_of}
 use Rattle.hlfir_ops.specs.RulesValues.{Value, values_in, value_of_name}
 use Rattle.hlfir_ops.specs.RulesPlaces.{Around, around_in}
-use Rattle.lower_assign.specs.Scopes.{Scope, inside}
-use Rattle.lower_assign.specs.Lowerings.{Lowering, done, ◌>>=◌ as ◌then◌, ◌>>◌ as ◌after◌, scoped, statement_of}
-use Rattle.lower_assign.specs.Values.{value}
+use Rattle.lower_values.specs.Scopes.{Scope, inside}
+use Rattle.lower_values.specs.Lowerings.{Lowering, done, ◌>>=◌ as ◌then◌, ◌>>◌ as ◌after◌, scoped, statement_of}
+use Rattle.lower_values.specs.Values.{value}
 use Rattle.lower_assign.specs.Statements.{yielded, all_yielded, is_whole_allocatable, assignment}
-use Rattle.lower_assign.specs.Lowerings.{acting}
+use Rattle.lower_values.specs.Lowerings.{acting}
 use Rattle.lower_constructs.specs.Modules.{triples, forall_mask, statement, statements}
 use Rattle.small_laws.proofs.NoFaults.{none_first, none_after, impossible}
 use Rattle.kind_laws.specs.Standing.{Knows}

@@ -17,11 +17,11 @@ use Rattle.hlfir_ops.specs.declared.kinds.Elem.TheVariants.{I32}
 use Rattle.hlfir_ops.specs.declared.op.ValueId.{ValueId}
 use Rattle.hlfir_ops.specs.Numbers.{numbers_of}
 use Rattle.hlfir_ops.specs.RulesValues.{Value}
-use Rattle.lower_assign.specs.Scopes.{Scope}
-use Rattle.lower_assign.specs.Lowerings.{Lowering, Lowered, done, ◌>>=◌ as ◌then◌}
-use Rattle.lower_assign.specs.Values.{value}
-use Rattle.lower_assign.specs.Lists.{stride}
-use Rattle.lower_assign.specs.Operations.{constant}
+use Rattle.lower_values.specs.Scopes.{Scope}
+use Rattle.lower_values.specs.Lowerings.{Lowering, Lowered, done, ◌>>=◌ as ◌then◌}
+use Rattle.lower_values.specs.Values.{value}
+use Rattle.lower_values.specs.Lists.{stride}
+use Rattle.lower_values.specs.Operations.{constant}
 use Rattle.lower_constructs.specs.Modules.{triple, triples}
 use Rattle.small_laws.proofs.NoFaults.{none_first, none_after}
 use Rattle.kind_laws.specs.Standing.{Knows}

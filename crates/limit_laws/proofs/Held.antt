@@ -10,8 +10,8 @@ use Rattle.hlfir_ops.specs.declared.op.Region.{Region, out-roll-Region}
 use Rattle.hlfir_ops.specs.Trees.{op_of, region_of}
 use Rattle.hlfir_ops.specs.Numbers.{names_in, own_numbers, numbers_of}
 use Rattle.hlfir_ops.specs.RulesValues.{Value, own_values, op_values, values_of, values_in, value_at, value_of_name, source_of}
-use Rattle.lower_assign.specs.Scopes.{Scope}
-use Rattle.lower_assign.specs.Lowerings.{Lowering, ◌>>=◌ as ◌then◌}
+use Rattle.lower_values.specs.Scopes.{Scope}
+use Rattle.lower_values.specs.Lowerings.{Lowering, ◌>>=◌ as ◌then◌}
 use Rattle.kind_laws.specs.Found.{Holds}
 use Rattle.kind_laws.proofs.Sited.{op_values-parts, values_of-append, values_of-length}
 

@@ -12,8 +12,8 @@ use Rattle.hlfir_ops.specs.declared.op.Op.{Op}
 use Rattle.hlfir_ops.specs.Numbers.{numbers_of}
 use Rattle.hlfir_ops.specs.RulesValues.{Value, values_of}
 use Rattle.hlfir_ops.specs.RulesPlaces.{sites_of, outermost}
-use Rattle.lower_assign.specs.Scopes.{Scope, scope_at}
-use Rattle.lower_assign.specs.Lowerings.{Lowering, ◌>>=◌ as ◌then◌, in_turn}
+use Rattle.lower_values.specs.Scopes.{Scope, scope_at}
+use Rattle.lower_values.specs.Lowerings.{Lowering, ◌>>=◌ as ◌then◌, in_turn}
 use Rattle.lower_assign.specs.Known.{names_of, variable_decls}
 use Rattle.lower_constructs.specs.Modules.{declaration, statement_list, lowered}
 use Rattle.small_laws.proofs.NoFaults.{none_first, none_after}

@@ -15,10 +15,10 @@ use Rattle.hlfir_ops.specs.RulesValues.{Value, elem_of, rank_of}
 use Rattle.hlfir_ops.specs.RulesForms.{result_elem}
 use Rattle.ws_base.specs.declared.op.UnOp.{UnOp}
 use Rattle.ws_base.specs.declared.op.UnOp.TheVariants as un
-use Rattle.lower_assign.specs.declared.operand.Operand.{Operand}
-use Rattle.lower_assign.specs.Scopes.{Scope, inside}
-use Rattle.lower_assign.specs.Lowerings.{Lowering, Lowered, done, ◌>>=◌ as ◌then◌, giving, acting, giving_by}
-use Rattle.lower_assign.specs.Operations.{constant, values_of, arranged, rank_from, on_scalars, at_position, at_positions, element, at_each, operation, binary_operation, value_of_whole, in_parentheses, unary_operation, joined}
+use Rattle.lower_values.specs.declared.operand.Operand.{Operand}
+use Rattle.lower_values.specs.Scopes.{Scope, inside}
+use Rattle.lower_values.specs.Lowerings.{Lowering, Lowered, done, ◌>>=◌ as ◌then◌, giving, acting, giving_by}
+use Rattle.lower_values.specs.Operations.{constant, values_of, arranged, rank_from, on_scalars, at_position, at_positions, element, at_each, operation, binary_operation, value_of_whole, in_parentheses, unary_operation, joined}
 use Rattle.limit_laws.proofs.Costs.{is_light, reduces, wholes, Costs, slack, IsProper, Priced}
 use Rattle.limit_laws.proofs.Costing.{Spends, costs-weaker, costs-around, spends-done, spends-then, spends-giving, spends-acting}
 

@@ -26,9 +26,9 @@ use Rattle.hlfir_ops.specs.Trees.{region_of}
 use Rattle.hlfir_ops.specs.Numbers.{numbers_of}
 use Rattle.hlfir_ops.specs.RulesValues.{Value}
 use Rattle.hlfir_ops.specs.RulesPlaces.{Around, around_in}
-use Rattle.lower_assign.specs.Scopes.{Scope, inside}
-use Rattle.lower_assign.specs.Lowerings.{Lowering, done, ◌>>=◌ as ◌then◌, scoped, statement_of, acting}
-use Rattle.lower_assign.specs.References.{declare_of}
+use Rattle.lower_values.specs.Scopes.{Scope, inside}
+use Rattle.lower_values.specs.Lowerings.{Lowering, done, ◌>>=◌ as ◌then◌, scoped, statement_of, acting}
+use Rattle.lower_values.specs.References.{declare_of}
 use Rattle.lower_assign.specs.Statements.{all_yielded, is_whole_allocatable, assignment}
 use Rattle.lower_constructs.specs.Modules.{triple, statement, statements}
 use Rattle.lower_constructs.specs.Modules.{statement_list}

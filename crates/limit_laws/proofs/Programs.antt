@@ -25,7 +25,7 @@ use Rattle.hlfir_ops.specs.RulesRegions.{ops_in}
 use Rattle.hlfir_ops.specs.RulesPlaces.{Around}
 use Rattle.hlfir_ops.specs.RulesLimits.{phases_of, temporaries_of}
 use Rattle.hlfir_ops.specs.Rules.{own_limits, counts_fit, statement_fits, workshare_fits}
-use Rattle.lower_assign.specs.Scopes.{Scope}
+use Rattle.lower_values.specs.Scopes.{Scope}
 use Rattle.small_laws.proofs.NoFaults.{none_first, none_after, not_broken}
 use Rattle.kind_laws.specs.Laws.{TypesAreKnown, KindsAreTypes, ValuesAreFound}
 use Rattle.limit_laws.proofs.Costs.{Costs}

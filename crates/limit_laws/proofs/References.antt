@@ -22,13 +22,13 @@ use Rattle.hlfir_ops.specs.declared.op.ValueId.{ValueId}
 use Rattle.hlfir_ops.specs.Numbers.{numbers_of}
 use Rattle.hlfir_ops.specs.RulesValues.{Value, Declares, elem_of, is_expression, is_whole, value_at}
 use Rattle.hlfir_ops.specs.RulesForms.{section_rank}
-use Rattle.lower_assign.specs.declared.names.Names.{Names}
-use Rattle.lower_assign.specs.declared.names.Variable.{Variable}
-use Rattle.lower_assign.specs.declared.operand.Operand.{Operand}
-use Rattle.lower_assign.specs.declared.operand.Subscript.{Subscript}
-use Rattle.lower_assign.specs.Scopes.{Scope, index_of}
-use Rattle.lower_assign.specs.Lowerings.{Lowering, done, ◌>>=◌ as ◌then◌, scoped, giving}
-use Rattle.lower_assign.specs.References.{variable_of, or_nothing, declare_of, box_of, boxed, reference, load_of, loaded, variable_or_truth, index_or_other, named, sub_kind, sub_values, bound, part_kind, designated, first_name, dimension_in, size, dimension, bound_word, bound_or_size, is_allocated, inquiry_or_nothing, inquiry}
+use Rattle.lower_values.specs.declared.names.Names.{Names}
+use Rattle.lower_values.specs.declared.names.Variable.{Variable}
+use Rattle.lower_values.specs.declared.operand.Operand.{Operand}
+use Rattle.lower_values.specs.declared.operand.Subscript.{Subscript}
+use Rattle.lower_values.specs.Scopes.{Scope, index_of}
+use Rattle.lower_values.specs.Lowerings.{Lowering, done, ◌>>=◌ as ◌then◌, scoped, giving}
+use Rattle.lower_values.specs.References.{variable_of, or_nothing, declare_of, box_of, boxed, reference, load_of, loaded, variable_or_truth, index_or_other, named, sub_kind, sub_values, bound, part_kind, designated, first_name, dimension_in, size, dimension, bound_word, bound_or_size, is_allocated, inquiry_or_nothing, inquiry}
 use Rattle.small_laws.proofs.NoFaults.{none_first, none_after, impossible}
 use Rattle.kind_laws.specs.Standing.{FitsEntry, EntryIsKnown, NameIsKnown}
 use Rattle.kind_laws.specs.Found.{Holds, DeclareIsFound}

@@ -5,7 +5,7 @@ use Rattle.ws_types.specs.declared.types.Standing.{Standing}
 use Rattle.ws_types.specs.declared.types.Standing.TheVariants.{Declared, Active, Index, Barred}
 use Rattle.ws_types.specs.Names.{Name, standing_of}
 use Rattle.hlfir_ops.specs.RulesValues.{Value}
-use Rattle.lower_assign.specs.Scopes.{Scope}
+use Rattle.lower_values.specs.Scopes.{Scope}
 use Rattle.kind_laws.specs.Standing.{NameIsKnown, Knows}
 use Rattle.kind_laws.specs.Found.{ScopeIsFound}
 

@@ -30,12 +30,12 @@ use Rattle.hlfir_ops.specs.RulesRegions.{ops_in}
 use Rattle.hlfir_ops.specs.RulesPlaces.{Around, around_in}
 use Rattle.hlfir_ops.specs.RulesLimits.{size_of, size_limit, nothing, ended, counted_all}
 use Rattle.hlfir_ops.specs.Rules.{expressions_fit}
-use Rattle.lower_assign.specs.declared.operand.Operand.{Operand}
-use Rattle.lower_assign.specs.Scopes.{Scope, inside}
-use Rattle.lower_assign.specs.Lowerings.{Lowering, Lowered, done, ◌>>=◌ as ◌then◌, scoped, in_turn, acting, statement_of}
-use Rattle.lower_assign.specs.Operations.{constant}
-use Rattle.lower_assign.specs.References.{declare_of}
-use Rattle.lower_assign.specs.Values.{value}
+use Rattle.lower_values.specs.declared.operand.Operand.{Operand}
+use Rattle.lower_values.specs.Scopes.{Scope, inside}
+use Rattle.lower_values.specs.Lowerings.{Lowering, Lowered, done, ◌>>=◌ as ◌then◌, scoped, in_turn, acting, statement_of}
+use Rattle.lower_values.specs.Operations.{constant}
+use Rattle.lower_values.specs.References.{declare_of}
+use Rattle.lower_values.specs.Values.{value}
 use Rattle.lower_assign.specs.Statements.{yielded, all_yielded, item, bounds_of, all_bounds, allocation, deallocation, reading}
 use Rattle.small_laws.specs.Small.{IsSmallPart}
 use Rattle.small_laws.proofs.NoFaults.{none_first, none_after, not_broken, left_false, right_false}

@@ -23,7 +23,7 @@ use Rattle.ws_sema.specs.Declarations.{element_limit, bound_faults, bounds_fault
 use Rattle.hlfir_ops.specs.declared.kinds.Elem.{Elem}
 use Rattle.hlfir_ops.specs.RulesLimits.{is_small, rank_limit}
 use Rattle.hlfir_ops.specs.RulesLimits as limits
-use Rattle.lower_assign.specs.declared.names.Variable.{Variable}
+use Rattle.lower_values.specs.declared.names.Variable.{Variable}
 use Rattle.lower_assign.specs.Known.{value_or_zero, elem, bound_dim, declared_shape, variable_kind, kind_of, variable, declares_variable, if_variable, variable_decls, numbered}
 use Rattle.small_laws.proofs.NoFaults.{none_first, none_after, not_broken, impossible, left_false, right_false}
 use Rattle.kind_laws.proofs.ConstantsKnown.{value_after}

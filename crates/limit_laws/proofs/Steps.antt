@@ -14,14 +14,14 @@ use Rattle.hlfir_ops.specs.declared.what.ValueBinary.{ValueBinary}
 use Rattle.hlfir_ops.specs.Numbers.{numbers_of}
 use Rattle.hlfir_ops.specs.RulesValues.{Value, is_whole, value_at}
 use Rattle.hlfir_ops.specs.RulesLimits.{item_limit}
-use Rattle.lower_assign.specs.declared.operand.Operand.{Operand}
-use Rattle.lower_assign.specs.declared.operand.Subscript.{Subscript}
-use Rattle.lower_assign.specs.declared.operand.Subscript.TheVariants.{Range}
-use Rattle.lower_assign.specs.Scopes.{Scope}
-use Rattle.lower_assign.specs.Lowerings.{Lowering, Lowered, done, ◌>>=◌ as ◌then◌}
-use Rattle.lower_assign.specs.Operations.{values_of, binary_operation, in_parentheses, unary_operation, joined, call_on, vector}
-use Rattle.lower_assign.specs.References.{or_nothing, reference, loaded, subscript_of, sub_values, designated}
-use Rattle.lower_assign.specs.Values.{part_of}
+use Rattle.lower_values.specs.declared.operand.Operand.{Operand}
+use Rattle.lower_values.specs.declared.operand.Subscript.{Subscript}
+use Rattle.lower_values.specs.declared.operand.Subscript.TheVariants.{Range}
+use Rattle.lower_values.specs.Scopes.{Scope}
+use Rattle.lower_values.specs.Lowerings.{Lowering, Lowered, done, ◌>>=◌ as ◌then◌}
+use Rattle.lower_values.specs.Operations.{values_of, binary_operation, in_parentheses, unary_operation, joined, call_on, vector}
+use Rattle.lower_values.specs.References.{or_nothing, reference, loaded, subscript_of, sub_values, designated}
+use Rattle.lower_values.specs.Values.{part_of}
 use Rattle.limit_laws.proofs.Costs.{total, size, wholes, wholes_among, one_if, Costs, slack, IsProper, Priced}
 use Rattle.limit_laws.proofs.Costing.{spends-done, spends-then}
 use Rattle.limit_laws.proofs.Operations.{priced-weaker, priced-costs, priced-binary, priced-unary, priced-parentheses, priced-joined, slack-few}

@@ -30,13 +30,13 @@ use Rattle.hlfir_ops.specs.declared.what.ValueBinary.{ValueBinary}
 use Rattle.hlfir_ops.specs.declared.what.ValueBinary.TheVariants as op
 use Rattle.hlfir_ops.specs.Numbers.{numbers_of}
 use Rattle.hlfir_ops.specs.RulesValues.{Value}
-use Rattle.lower_assign.specs.declared.operand.Operand.{Operand}
-use Rattle.lower_assign.specs.declared.operand.Subscript.TheVariants.{Range}
-use Rattle.lower_assign.specs.Scopes.{Scope}
-use Rattle.lower_assign.specs.Lowerings.{Lowering, Lowered, done, ◌>>=◌ as ◌then◌, scoped}
-use Rattle.lower_assign.specs.Operations.{constant, binary_of, binary_operation, in_parentheses, unary_operation, joined, call_on, vector}
-use Rattle.lower_assign.specs.References.{reference, loaded, named, subscript_of, sub_values, bound, designated}
-use Rattle.lower_assign.specs.Values.{folded, part_of, value, values, nested, subscripts, subscript, given_or}
+use Rattle.lower_values.specs.declared.operand.Operand.{Operand}
+use Rattle.lower_values.specs.declared.operand.Subscript.TheVariants.{Range}
+use Rattle.lower_values.specs.Scopes.{Scope}
+use Rattle.lower_values.specs.Lowerings.{Lowering, Lowered, done, ◌>>=◌ as ◌then◌, scoped}
+use Rattle.lower_values.specs.Operations.{constant, binary_of, binary_operation, in_parentheses, unary_operation, joined, call_on, vector}
+use Rattle.lower_values.specs.References.{reference, loaded, named, subscript_of, sub_values, bound, designated}
+use Rattle.lower_values.specs.Values.{folded, part_of, value, values, nested, subscripts, subscript, given_or}
 use Rattle.small_laws.proofs.NoFaults.{none_first, none_after, allowed}
 use Rattle.kind_laws.specs.Standing.{Knows}
 use Rattle.kind_laws.specs.Found.{Holds, ScopeIsFound}

@@ -19,9 +19,9 @@ use Rattle.hlfir_ops.specs.Trees.{region_of}
 use Rattle.hlfir_ops.specs.Numbers.{numbers_of, order_of, order_in}
 use Rattle.hlfir_ops.specs.RulesValues.{Value}
 use Rattle.hlfir_ops.specs.RulesPlaces.{Around, around_in}
-use Rattle.lower_assign.specs.Scopes.{Scope, inside}
-use Rattle.lower_assign.specs.Lowerings.{Lowering, done, ◌>>=◌ as ◌then◌, scoped, statement_of}
-use Rattle.lower_assign.specs.Values.{value}
+use Rattle.lower_values.specs.Scopes.{Scope, inside}
+use Rattle.lower_values.specs.Lowerings.{Lowering, done, ◌>>=◌ as ◌then◌, scoped, statement_of}
+use Rattle.lower_values.specs.Values.{value}
 use Rattle.lower_assign.specs.Statements.{yielded, is_whole_allocatable, assignment}
 use Rattle.lower_constructs.specs.Modules.{elsewhere, statement, statements, elsewheres}
 use Rattle.small_laws.proofs.NoFaults.{none_first, none_after, impossible}

@@ -23,9 +23,9 @@ use Rattle.hlfir_ops.proofs.Order.{order_of-append}
 use Rattle.hlfir_ops.specs.RulesValues.{Value, values_in}
 use Rattle.hlfir_ops.specs.RulesPlaces.{Around, around_in}
 use Rattle.hlfir_ops.specs.Rules.{statement_fits}
-use Rattle.lower_assign.specs.Scopes.{Scope, inside}
-use Rattle.lower_assign.specs.Lowerings.{Lowering, regions_from}
-use Rattle.lower_assign.specs.Values.{value}
+use Rattle.lower_values.specs.Scopes.{Scope, inside}
+use Rattle.lower_values.specs.Lowerings.{Lowering, regions_from}
+use Rattle.lower_values.specs.Values.{value}
 use Rattle.lower_assign.specs.Statements.{yielded, left}
 use Rattle.lower_constructs.specs.Modules.{third, statements, elsewheres}
 use Rattle.small_laws.proofs.NoFaults.{none_first, none_after}

@@ -25,13 +25,13 @@ use Rattle.hlfir_ops.specs.declared.what.What.TheVariants as what
 use Rattle.hlfir_ops.specs.declared.op.ValueId.{ValueId}
 use Rattle.hlfir_ops.specs.Numbers.{numbers_of}
 use Rattle.hlfir_ops.specs.RulesValues.{Value, rank_of, is_reference, is_expression, is_whole, value_at}
-use Rattle.lower_assign.specs.declared.names.Names.{Names}
-use Rattle.lower_assign.specs.declared.operand.Operand.{Operand}
-use Rattle.lower_assign.specs.Scopes.{Scope, index_of}
-use Rattle.lower_assign.specs.Lowerings.{Lowering, done, ◌>>=◌ as ◌then◌, scoped, giving}
-use Rattle.lower_assign.specs.Operations.{values_of, first_elem, value_of_whole, in_parentheses, vector}
-use Rattle.lower_assign.specs.References.{variable_of, boxed, load_of, loaded, variable_or_truth, index_or_other, named, designated}
-use Rattle.lower_assign.specs.Values.{constant_or, folded, part_of, value, values, subscripts}
+use Rattle.lower_values.specs.declared.names.Names.{Names}
+use Rattle.lower_values.specs.declared.operand.Operand.{Operand}
+use Rattle.lower_values.specs.Scopes.{Scope, index_of}
+use Rattle.lower_values.specs.Lowerings.{Lowering, done, ◌>>=◌ as ◌then◌, scoped, giving}
+use Rattle.lower_values.specs.Operations.{values_of, first_elem, value_of_whole, in_parentheses, vector}
+use Rattle.lower_values.specs.References.{variable_of, boxed, load_of, loaded, variable_or_truth, index_or_other, named, designated}
+use Rattle.lower_values.specs.Values.{constant_or, folded, part_of, value, values, subscripts}
 use Rattle.small_laws.proofs.NoFaults.{none_first, none_after, not_broken}
 use Rattle.kind_laws.specs.Standing.{Knows}
 use Rattle.kind_laws.specs.Found.{Holds, ScopeIsFound}

@@ -20,9 +20,9 @@ use Rattle.hlfir_ops.specs.declared.kinds.Elem.{Elem}
 use Rattle.hlfir_ops.specs.declared.kinds.Elem.TheVariants.{I32, I1}
 use Rattle.hlfir_ops.specs.declared.kinds.ValueKind.{ValueKind}
 use Rattle.hlfir_ops.specs.declared.kinds.ValueKind.TheVariants.{Place, Declared, Allocatable}
-use Rattle.lower_assign.specs.declared.names.NamedTruth.{NamedTruth}
-use Rattle.lower_assign.specs.declared.names.Names.{Names}
-use Rattle.lower_assign.specs.declared.names.Variable.{Variable}
+use Rattle.lower_values.specs.declared.names.NamedTruth.{NamedTruth}
+use Rattle.lower_values.specs.declared.names.Names.{Names}
+use Rattle.lower_values.specs.declared.names.Variable.{Variable}
 
 -- ---- kinds of variables
 

@@ -1,10 +1,3 @@
-pub mod Scopes
-pub mod Lowerings
-pub mod Operations
-pub mod References
-pub mod Values
 pub mod Statements
-pub mod Folding
 pub mod Known
-pub mod Lists
 pub mod Opened

@@ -12,12 +12,12 @@ use Rattle.hlfir_ops.specs.declared.kinds.Elem.TheVariants.{I32}
 use Rattle.hlfir_ops.specs.declared.what.What.TheVariants as what
 use Rattle.hlfir_ops.specs.declared.op.ValueId.{ValueId}
 use Rattle.hlfir_ops.specs.RulesValues.{is_allocatable}
-use Rattle.lower_assign.specs.declared.names.Names.{Names}
-use Rattle.lower_assign.specs.declared.operand.Operand.{Operand}
-use Rattle.lower_assign.specs.Lowerings.{Lowering, done, ◌>>=◌, scoped, in_turn, acting, statement_of}
-use Rattle.lower_assign.specs.Operations.{constant}
-use Rattle.lower_assign.specs.References.{nothing, declare_of, boxed}
-use Rattle.lower_assign.specs.Values.{value, part_of, subscripts}
+use Rattle.lower_values.specs.declared.names.Names.{Names}
+use Rattle.lower_values.specs.declared.operand.Operand.{Operand}
+use Rattle.lower_values.specs.Lowerings.{Lowering, done, ◌>>=◌, scoped, in_turn, acting, statement_of}
+use Rattle.lower_values.specs.Operations.{constant}
+use Rattle.lower_values.specs.References.{nothing, declare_of, boxed}
+use Rattle.lower_values.specs.Values.{value, part_of, subscripts}
 
 -- ---- what regions yield
 

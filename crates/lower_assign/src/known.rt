@@ -4,9 +4,8 @@ ghost use Rattle.std.specs.Prelude.{◌≡◌, ◌++◌, IfOk, OnOk, map};
 ghost use Rattle.ws_space.specs.Shapes.{natural, declared_dim, shape_of};
 ghost use Rattle.lower_assign.specs.Known as known;
 
-use crate::names::{NamedTruth, Names, Variable};
-use crate::operand::Operand;
 use hlfir_ops::{Elem, ValueId, ValueKind};
+use lower_values::{NamedTruth, Names, Operand, Variable};
 use sqlite_items::Items;
 use std::alloc::{AllocError, Global};
 use ws_base::Name;

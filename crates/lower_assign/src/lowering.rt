@@ -2,15 +2,15 @@
 
 ghost use Rattle.std.specs.Prelude.{IfOk, OnOk};
 ghost use Rattle.lower_assign.specs.Known.{names_of};
-ghost use Rattle.lower_assign.specs.Lowerings.{Appends};
+ghost use Rattle.lower_values.specs.Lowerings.{Appends};
 ghost use Rattle.lower_assign.specs.Statements as statements;
-ghost use Rattle.lower_assign.specs.Values as values;
+ghost use Rattle.lower_values.specs.Values as values;
 
 use crate::known::names_of;
 use crate::sides::left;
 use crate::statements::plain;
-use crate::values::value;
 use hlfir_ops::{Builder, ValueId};
+use lower_values::value;
 use std::alloc::{AllocError, Global};
 use ws_sema::Checked;
 use ws_tree::{Expr, Stmt};

@@ -3,17 +3,13 @@
 ghost use Rattle.std.specs.Prelude.{◌≡◌, [], ◌∷◌, Some, IfOk, OnOk};
 ghost use Rattle.hlfir_ops.specs.declared.what.What.TheVariants.{Yield};
 ghost use Rattle.hlfir_ops.specs.RulesValues as kinds;
-ghost use Rattle.lower_assign.specs.declared.names.Names.{Names};
-ghost use Rattle.lower_assign.specs.Lowerings as lowerings;
+ghost use Rattle.lower_values.specs.declared.names.Names.{Names};
+ghost use Rattle.lower_values.specs.Lowerings as lowerings;
 ghost use Rattle.lower_assign.specs.Statements as statements;
-ghost use Rattle.lower_assign.specs.Values as values;
+ghost use Rattle.lower_values.specs.Values as values;
 
-use crate::appending::act;
-use crate::names::Names;
-use crate::operand::Operand;
-use crate::references::{NOTHING, boxed, declare_of};
-use crate::values::{part, value};
 use hlfir_ops::{Builder, ValueKind, What};
+use lower_values::{NOTHING, Names, Operand, act, boxed, declare_of, part, value};
 use sqlite_items::Items;
 use std::alloc::{AllocError, Global};
 use ws_tree::Expr;

@@ -1,17 +1,13 @@
 //! The statements that hold no others.
 
 ghost use Rattle.std.specs.Prelude.{◌≡◌, not, ◌&&◌, IfOk, OnOk};
-ghost use Rattle.lower_assign.specs.declared.names.Names.{Names};
-ghost use Rattle.lower_assign.specs.Lowerings as lowerings;
+ghost use Rattle.lower_values.specs.declared.names.Names.{Names};
+ghost use Rattle.lower_values.specs.Lowerings as lowerings;
 ghost use Rattle.lower_assign.specs.Statements as statements;
 
-use crate::appending::{act, begin};
-use crate::elementals::number_constant;
-use crate::names::Names;
-use crate::references::declare_of;
 use crate::sides::{is_whole_allocatable, yield_item, yield_left, yield_value};
-use crate::values::value;
 use hlfir_ops::{Builder, ValueIdList, What};
+use lower_values::{Names, act, begin, declare_of, number_constant, value};
 use sqlite_items::Items;
 use std::alloc::{AllocError, Global};
 use ws_base::Name;
@@ -213,7 +209,7 @@ fn readings(
 }
 
 /// An assignment, ALLOCATE, DEALLOCATE or READ. Any other statement adds nothing here.
-#[tactic(auto, using(crate::proofs::Appended::done_rules), unfolding(ws_tree::specs::Opened::trees_open))]
+#[tactic(auto, using(lower_values::proofs::Appended::done_rules), unfolding(ws_tree::specs::Opened::trees_open))]
 pub fn plain(
     alloc: Global,
     build: &mut Builder,

@@ -15,12 +15,12 @@ use Rattle.ws_tree.specs.declared.stmt.Body.TheViews.{roll-Else, out-Else, roll-
 use Rattle.ws_tree.specs.Opened.{trees_open}
 use Rattle.hlfir_ops.specs.declared.what.What.TheVariants as what
 use Rattle.hlfir_ops.specs.Built.{Built}
-use Rattle.lower_assign.specs.declared.names.Names.{Names}
-use Rattle.lower_assign.specs.Lowerings.{Lowering, ◌>>◌, scoped, statement_of, Appends}
-use Rattle.lower_assign.specs.References.{declare_of}
-use Rattle.lower_assign.specs.Values.{value}
+use Rattle.lower_values.specs.declared.names.Names.{Names}
+use Rattle.lower_values.specs.Lowerings.{Lowering, ◌>>◌, scoped, statement_of, Appends}
+use Rattle.lower_values.specs.References.{declare_of}
+use Rattle.lower_values.specs.Values.{value}
 use Rattle.lower_assign.specs.Statements.{yielded, all_yielded}
-use Rattle.lower_assign.proofs.Appended.{appends-by, appends-next, appends-scoped}
+use Rattle.lower_values.proofs.Appended.{appends-by, appends-next, appends-scoped}
 use Rattle.lower_constructs.specs.Modules.{triple, triples, forall_mask, third, elsewhere, statement, statements, elsewheres, statement_list}
 use Rattle.lower_constructs.specs.Lists.{mask_of, else_part, else_list, third_of, forall_body}
 use Rattle.lower_constructs.specs.Filled.{Fills}

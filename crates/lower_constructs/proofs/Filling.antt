@@ -5,12 +5,12 @@ use Rattle.hlfir_ops.specs.declared.what.What.{What}
 use Rattle.hlfir_ops.specs.declared.op.ValueId.{ValueId}
 use Rattle.hlfir_ops.specs.Built.{Built, Enters, left}
 use Rattle.hlfir_ops.proofs.Entering.{enters-around}
-use Rattle.lower_assign.specs.declared.names.Names.{Names}
-use Rattle.lower_assign.specs.Lowerings.{Lowering, acting, statement_of, opened, Appends}
+use Rattle.lower_values.specs.declared.names.Names.{Names}
+use Rattle.lower_values.specs.Lowerings.{Lowering, acting, statement_of, opened, Appends}
 use Rattle.lower_assign.specs.Statements.{all_yielded}
 use Rattle.hlfir_ops.specs.declared.what.What.TheVariants as what
-use Rattle.lower_assign.proofs.Appended.{appends-next}
-use Rattle.lower_assign.proofs.Holding.{Holds, holds-none, holds-op, holds-next, appends-statement}
+use Rattle.lower_values.proofs.Appended.{appends-next}
+use Rattle.lower_values.proofs.Holding.{Holds, holds-none, holds-op, holds-next, appends-statement}
 use Rattle.lower_constructs.specs.Filled.{Fills}
 
 -- ---- the op stands last

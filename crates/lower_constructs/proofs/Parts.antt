@@ -10,16 +10,16 @@ use Rattle.hlfir_ops.specs.declared.what.What.TheVariants as what
 use Rattle.hlfir_ops.specs.declared.op.ValueId.{ValueId}
 use Rattle.hlfir_ops.specs.declared.op.Module.{Module}
 use Rattle.hlfir_ops.specs.Built.{Built, begun, taken, line_around}
-use Rattle.lower_assign.specs.declared.names.Names.{Names}
-use Rattle.lower_assign.specs.declared.names.Variable.{Variable}
-use Rattle.lower_assign.specs.declared.operand.Operand.{Operand}
-use Rattle.lower_assign.specs.Scopes.{scope_at}
+use Rattle.lower_values.specs.declared.names.Names.{Names}
+use Rattle.lower_values.specs.declared.names.Variable.{Variable}
+use Rattle.lower_values.specs.declared.operand.Operand.{Operand}
+use Rattle.lower_values.specs.Scopes.{scope_at}
 use Rattle.lower_assign.specs.Known.{names_of}
-use Rattle.lower_assign.specs.Lists.{stride}
-use Rattle.lower_assign.specs.Lowerings.{Lowering, done, ◌>>=◌, in_turn, giving, statement_of, grown, Appends}
-use Rattle.lower_assign.specs.Values.{value}
+use Rattle.lower_values.specs.Lists.{stride}
+use Rattle.lower_values.specs.Lowerings.{Lowering, done, ◌>>=◌, in_turn, giving, statement_of, grown, Appends}
+use Rattle.lower_values.specs.Values.{value}
 use Rattle.lower_assign.specs.Statements.{yielded}
-use Rattle.lower_assign.proofs.Appended.{appends-by, appends-done, appends-next, appends-map, appends-scoped}
+use Rattle.lower_values.proofs.Appended.{appends-by, appends-done, appends-next, appends-map, appends-scoped}
 use Rattle.lower_constructs.specs.Modules.{triple, triples, forall_mask, declaration, statement_list, program, lowered}
 
 -- ---- headers

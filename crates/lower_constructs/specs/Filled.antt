@@ -3,8 +3,8 @@ use Rattle.std.specs.Prelude.{⊤, ℕ, List, ◌++◌}
 use Rattle.hlfir_ops.specs.declared.what.What.{What}
 use Rattle.hlfir_ops.specs.declared.op.ValueId.{ValueId}
 use Rattle.hlfir_ops.specs.Built.{Built}
-use Rattle.lower_assign.specs.declared.names.Names.{Names}
-use Rattle.lower_assign.specs.Lowerings.{Lowering, statement_of, Appends}
+use Rattle.lower_values.specs.declared.names.Names.{Names}
+use Rattle.lower_values.specs.Lowerings.{Lowering, statement_of, Appends}
 
 -- where a statement's op stands last with some regions, it has these after them now
 pub record Fills (names : Names) (qs : List (Lowering ⊤)) (old new : Built) : Type 0 where

@@ -3,8 +3,8 @@ use Rattle.std.specs.Prelude.{⊤, List, [], ◌∷◌, Option, Some, None}
 use Rattle.ws_tree.specs.declared.expr.Expr.{Expr}
 use Rattle.ws_tree.specs.declared.stmt.Stmt.{Stmt}
 use Rattle.ws_tree.specs.declared.stmt.Else.{Else, out-Else}
-use Rattle.lower_assign.specs.Lowerings.{Lowering, done, ◌>>◌}
-use Rattle.lower_assign.specs.Values.{value}
+use Rattle.lower_values.specs.Lowerings.{Lowering, done, ◌>>◌}
+use Rattle.lower_values.specs.Values.{value}
 use Rattle.lower_assign.specs.Statements.{yielded}
 use Rattle.lower_constructs.specs.Modules.{forall_mask, elsewhere, statement_list}
 

@@ -11,12 +11,12 @@ use Rattle.ws_tree.specs.Trees.{Stmts, end_stmts, more_stmts, Elses, end_elses, 
 use Rattle.hlfir_ops.specs.declared.what.What.TheVariants as what
 use Rattle.hlfir_ops.specs.declared.op.ValueId.{ValueId}
 use Rattle.hlfir_ops.specs.declared.op.Module.{Module}
-use Rattle.lower_assign.specs.declared.names.Variable.{Variable}
-use Rattle.lower_assign.specs.Scopes.{scope_at}
-use Rattle.lower_assign.specs.Lowerings.{Lowering, done, ◌>>=◌, ◌>>◌, scoped, in_turn, giving, statement_of}
-use Rattle.lower_assign.specs.References.{declare_of}
-use Rattle.lower_assign.specs.Values.{value}
-use Rattle.lower_assign.specs.Lists.{stride}
+use Rattle.lower_values.specs.declared.names.Variable.{Variable}
+use Rattle.lower_values.specs.Scopes.{scope_at}
+use Rattle.lower_values.specs.Lowerings.{Lowering, done, ◌>>=◌, ◌>>◌, scoped, in_turn, giving, statement_of}
+use Rattle.lower_values.specs.References.{declare_of}
+use Rattle.lower_values.specs.Values.{value}
+use Rattle.lower_values.specs.Lists.{stride}
 use Rattle.lower_assign.specs.Statements.{yielded, all_yielded, plain}
 use Rattle.lower_assign.specs.Known.{names_of}
 

@@ -1,8 +1,8 @@
 //! The lowering of statements, and of those in them.
 
 ghost use Rattle.std.specs.Prelude.{◌≡◌, ◌<◌, [], ◌∷◌, length, OnOk};
-ghost use Rattle.lower_assign.specs.declared.names.Names.{Names};
-ghost use Rattle.lower_assign.specs.Lowerings.{Appends};
+ghost use Rattle.lower_values.specs.declared.names.Names.{Names};
+ghost use Rattle.lower_values.specs.Lowerings.{Appends};
 ghost use Rattle.lower_constructs.specs.Filled.{Fills};
 ghost use Rattle.lower_constructs.specs.Lists as lists;
 ghost use Rattle.lower_constructs.specs.Modules as modules;
@@ -11,7 +11,8 @@ use crate::headers::{
     begin_elsewhere, begin_forall, begin_loop, begin_masked, begin_statement, forall_mask,
 };
 use hlfir_ops::{Builder, What};
-use lower_assign::{Names, plain};
+use lower_assign::plain;
+use lower_values::Names;
 use sqlite_items::Items;
 use std::alloc::{AllocError, Global};
 use ws_tree::{Body, Else, Expr, Stmt};

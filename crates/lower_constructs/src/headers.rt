@@ -1,17 +1,18 @@
 //! What stands before the statements of a construct: the op with its mask or its header.
 
 ghost use Rattle.std.specs.Prelude.{◌≡◌, ◌<◌, [], ◌∷◌, length, map, IfOk, OnOk};
-ghost use Rattle.lower_assign.specs.declared.names.Names.{Names};
-ghost use Rattle.lower_assign.specs.Lowerings.{Appends, statement_of};
-ghost use Rattle.lower_assign.specs.References as references;
+ghost use Rattle.lower_values.specs.declared.names.Names.{Names};
+ghost use Rattle.lower_values.specs.Lowerings.{Appends, statement_of};
+ghost use Rattle.lower_values.specs.References as references;
 ghost use Rattle.lower_assign.specs.Statements.{yielded, all_yielded};
-ghost use Rattle.lower_assign.specs.Values as values;
+ghost use Rattle.lower_values.specs.Values as values;
 ghost use Rattle.lower_constructs.specs.Filled.{Fills};
 ghost use Rattle.lower_constructs.specs.Lists as lists;
 ghost use Rattle.lower_constructs.specs.Modules as modules;
 
 use hlfir_ops::{Builder, NameList, ValueIdList, What};
-use lower_assign::{Names, act, begin, declare_of, stride, value, yield_value};
+use lower_assign::yield_value;
+use lower_values::{Names, act, begin, declare_of, stride, value};
 use sqlite_items::Items;
 use std::alloc::{AllocError, Global};
 use ws_base::Name;

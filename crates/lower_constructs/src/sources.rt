@@ -1,13 +1,14 @@
 //! The module of a source.
 
 ghost use Rattle.std.specs.Prelude.{◌≡◌, ℕ, IfOk, OnOk};
-ghost use Rattle.lower_assign.specs.declared.names.Names.{Names};
-ghost use Rattle.lower_assign.specs.Lowerings.{Appends, in_turn};
+ghost use Rattle.lower_values.specs.declared.names.Names.{Names};
+ghost use Rattle.lower_values.specs.Lowerings.{Appends, in_turn};
 ghost use Rattle.lower_constructs.specs.Modules as modules;
 
 use crate::constructs::statements;
 use hlfir_ops::{Builder, Module, What};
-use lower_assign::{Names, Variable, give, names_of};
+use lower_assign::names_of;
+use lower_values::{Names, Variable, give};
 use sqlite_items::Items;
 use std::alloc::{AllocError, Global};
 use ws_sema::Checked;

@@ -10,10 +10,10 @@ use Rattle.hlfir_ops.specs.declared.op.Op.{Op}
 use Rattle.hlfir_ops.specs.Trees.{op_of}
 use Rattle.hlfir_meaning.specs.Environments.{Value, scalar, Environment, with_value, Yielded}
 use Rattle.hlfir_meaning.specs.Stage1 as walked
-use Rattle.lower_assign.specs.declared.operand.Operand.{Operand}
-use Rattle.lower_assign.specs.Scopes.{Scope}
-use Rattle.lower_assign.specs.Lowerings.{giving}
-use Rattle.lower_assign.specs.Operations.{values_of, first_elem, vector}
+use Rattle.lower_values.specs.declared.operand.Operand.{Operand}
+use Rattle.lower_values.specs.Scopes.{Scope}
+use Rattle.lower_values.specs.Lowerings.{giving}
+use Rattle.lower_values.specs.Operations.{values_of, first_elem, vector}
 use Rattle.value_laws.specs.Standing.{Passes, Goes, Does, StandEach}
 use Rattle.value_laws.specs.Singles.{IsSingle}
 use Rattle.value_laws.proofs.Constructors.{does-vector}

@@ -23,11 +23,11 @@ use Rattle.hlfir_meaning.specs.Environments.{Selection, Value, part, Environment
 use Rattle.hlfir_meaning.specs.References as references
 use Rattle.hlfir_meaning.specs.Selections.{extents, checked}
 use Rattle.hlfir_meaning.specs.Stage1 as walked
-use Rattle.lower_assign.specs.declared.operand.Operand.{Operand}
-use Rattle.lower_assign.specs.declared.operand.Subscript.{Subscript}
-use Rattle.lower_assign.specs.Scopes.{Scope}
-use Rattle.lower_assign.specs.Lowerings.{giving}
-use Rattle.lower_assign.specs.References.{sub_kind, sub_values, part_kind, designated}
+use Rattle.lower_values.specs.declared.operand.Operand.{Operand}
+use Rattle.lower_values.specs.declared.operand.Subscript.{Subscript}
+use Rattle.lower_values.specs.Scopes.{Scope}
+use Rattle.lower_values.specs.Lowerings.{giving}
+use Rattle.lower_values.specs.References.{sub_kind, sub_values, part_kind, designated}
 use Rattle.value_laws.specs.Standing.{Goes, Does}
 use Rattle.value_laws.proofs.Walking.{with_value-here, goes-op}
 use Rattle.value_laws.proofs.Scalars.{settled-not}

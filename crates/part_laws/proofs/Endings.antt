@@ -26,12 +26,12 @@ use Rattle.hlfir_ops.specs.Numbers.{own_numbers, numbers_of}
 use Rattle.hlfir_ops.specs.RulesValues.{rank_of}
 use Rattle.hlfir_ops.specs.RulesForms.{result_elem}
 use Rattle.hlfir_ops.proofs.Numbered.{numbers_of-append}
-use Rattle.lower_assign.specs.declared.operand.Operand.{Operand}
-use Rattle.lower_assign.specs.Scopes.{Scope}
-use Rattle.lower_assign.specs.Lowerings.{Lowered, Lowering, done, scoped, giving, giving_by, regions_from, ◌>>=◌ as ◌then◌}
-use Rattle.lower_assign.specs.Operations.{rank_from, on_scalars, element, at_each, operation, binary_operation, joined, reduction_of, what_of, call_elem, total_or, call_on}
-use Rattle.lower_assign.specs.References.{bound, reference, bound_or_size, bound_word, inquiry, inquiry_or_nothing}
-use Rattle.lower_assign.specs.Values.{constant_or, folded, value, nested}
+use Rattle.lower_values.specs.declared.operand.Operand.{Operand}
+use Rattle.lower_values.specs.Scopes.{Scope}
+use Rattle.lower_values.specs.Lowerings.{Lowered, Lowering, done, scoped, giving, giving_by, regions_from, ◌>>=◌ as ◌then◌}
+use Rattle.lower_values.specs.Operations.{rank_from, on_scalars, element, at_each, operation, binary_operation, joined, reduction_of, what_of, call_elem, total_or, call_on}
+use Rattle.lower_values.specs.References.{bound, reference, bound_or_size, bound_word, inquiry, inquiry_or_nothing}
+use Rattle.lower_values.specs.Values.{constant_or, folded, value, nested}
 use Rattle.part_laws.proofs.NoVariables.{IsNoBox}
 
 pub record EndsInOp (n : ℕ) (l : Lowered Operand) : Type 0 where

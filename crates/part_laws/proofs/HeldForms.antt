@@ -28,13 +28,13 @@ use Rattle.hlfir_ops.proofs.Numbered.{numbers_of-append}
 use Rattle.hlfir_meaning.specs.Environments.{Value, Environment, operand}
 use Rattle.hlfir_meaning.specs.Selections.{extents}
 use Rattle.hlfir_meaning.specs.Stage1 as walked
-use Rattle.lower_assign.specs.declared.operand.Operand.{Operand}
-use Rattle.lower_assign.specs.declared.operand.Subscript.{Subscript}
-use Rattle.lower_assign.specs.Scopes.{Scope}
-use Rattle.lower_assign.specs.Lowerings.{Lowered, Lowering, done, giving, scoped, ◌>>=◌ as ◌then◌}
-use Rattle.lower_assign.specs.Operations.{values_of, first_elem, value_of_whole, in_parentheses, unary_operation, vector}
-use Rattle.lower_assign.specs.References.{sub_kind, sub_values, reference, load_of, loaded, designated}
-use Rattle.lower_assign.specs.Values.{constant_or, folded, part_of, value, values, subscripts}
+use Rattle.lower_values.specs.declared.operand.Operand.{Operand}
+use Rattle.lower_values.specs.declared.operand.Subscript.{Subscript}
+use Rattle.lower_values.specs.Scopes.{Scope}
+use Rattle.lower_values.specs.Lowerings.{Lowered, Lowering, done, giving, scoped, ◌>>=◌ as ◌then◌}
+use Rattle.lower_values.specs.Operations.{values_of, first_elem, value_of_whole, in_parentheses, unary_operation, vector}
+use Rattle.lower_values.specs.References.{sub_kind, sub_values, reference, load_of, loaded, designated}
+use Rattle.lower_values.specs.Values.{constant_or, folded, part_of, value, values, subscripts}
 use Rattle.value_laws.specs.Variables.{IsNamed}
 use Rattle.part_laws.specs.Parts.{IsOfRankOne}
 use Rattle.part_laws.specs.Selects.{selected_by}

@@ -20,11 +20,11 @@ use Rattle.hlfir_ops.specs.declared.kinds.ValueKind.TheVariants as kind
 use Rattle.hlfir_ops.specs.Numbers.{numbers_of}
 use Rattle.hlfir_ops.specs.RulesValues.{rank_of}
 use Rattle.hlfir_meaning.specs.Environments.{Environment}
-use Rattle.lower_assign.specs.declared.operand.Operand.{Operand}
-use Rattle.lower_assign.specs.Scopes.{Scope}
-use Rattle.lower_assign.specs.Lowerings.{◌>>=◌ as ◌then◌}
-use Rattle.lower_assign.specs.References.{variable_of, or_nothing, declare_of, reference, loaded}
-use Rattle.lower_assign.specs.Values.{value, part_of, subscripts}
+use Rattle.lower_values.specs.declared.operand.Operand.{Operand}
+use Rattle.lower_values.specs.Scopes.{Scope}
+use Rattle.lower_values.specs.Lowerings.{◌>>=◌ as ◌then◌}
+use Rattle.lower_values.specs.References.{variable_of, or_nothing, declare_of, reference, loaded}
+use Rattle.lower_values.specs.Values.{value, part_of, subscripts}
 use Rattle.value_laws.specs.Standing.{Does, Stands}
 use Rattle.value_laws.specs.Arguments as values
 use Rattle.value_laws.specs.Laws.{PartsStand, Leaves}

@@ -15,11 +15,11 @@ use Rattle.array_meaning.specs.Stage1 as source
 use Rattle.hlfir_ops.specs.declared.kinds.ValueKind.{ValueKind}
 use Rattle.hlfir_ops.specs.declared.kinds.ValueKind.TheVariants as kind
 use Rattle.hlfir_meaning.specs.Environments.{Environment}
-use Rattle.lower_assign.specs.declared.operand.Operand.{Operand}
-use Rattle.lower_assign.specs.Scopes.{Scope}
-use Rattle.lower_assign.specs.Lowerings.{Lowering, ◌>>=◌ as ◌then◌}
-use Rattle.lower_assign.specs.Operations.{value_of_whole, in_parentheses, unary_operation, vector}
-use Rattle.lower_assign.specs.Values.{constant_or, folded, value, values}
+use Rattle.lower_values.specs.declared.operand.Operand.{Operand}
+use Rattle.lower_values.specs.Scopes.{Scope}
+use Rattle.lower_values.specs.Lowerings.{Lowering, ◌>>=◌ as ◌then◌}
+use Rattle.lower_values.specs.Operations.{value_of_whole, in_parentheses, unary_operation, vector}
+use Rattle.lower_values.specs.Values.{constant_or, folded, value, values}
 use Rattle.value_laws.specs.Standing.{Does, StandEach}
 use Rattle.value_laws.specs.Singles.{IsSingle}
 use Rattle.value_laws.specs.Variables.{IsNamed}

@@ -21,11 +21,11 @@ use Rattle.hlfir_ops.specs.Numbers.{numbers_of}
 use Rattle.hlfir_ops.specs.RulesValues.{rank_of}
 use Rattle.hlfir_meaning.specs.Environments.{variable, Environment, Yielded, result}
 use Rattle.hlfir_meaning.specs.Stage1.{subscript_numbers}
-use Rattle.lower_assign.specs.declared.operand.Operand.{Operand}
-use Rattle.lower_assign.specs.Scopes.{Scope}
-use Rattle.lower_assign.specs.Lowerings.{Lowering, done, scoped}
-use Rattle.lower_assign.specs.References.{variable_of, declare_of, box_of, boxed, reference}
-use Rattle.lower_assign.specs.Values.{part_of, subscripts}
+use Rattle.lower_values.specs.declared.operand.Operand.{Operand}
+use Rattle.lower_values.specs.Scopes.{Scope}
+use Rattle.lower_values.specs.Lowerings.{Lowering, done, scoped}
+use Rattle.lower_values.specs.References.{variable_of, declare_of, box_of, boxed, reference}
+use Rattle.lower_values.specs.Values.{part_of, subscripts}
 use Rattle.lower_assign.specs.Statements.{whole_left}
 use Rattle.value_laws.specs.Standing.{AreIn, Does}
 use Rattle.value_laws.specs.Names.{DeclareStands, Agrees}

@@ -24,13 +24,13 @@ use Rattle.hlfir_ops.specs.Trees.{op_of}
 use Rattle.hlfir_ops.specs.Numbers.{numbers_of}
 use Rattle.hlfir_meaning.specs.Environments.{Value, Environment, result}
 use Rattle.hlfir_meaning.specs.Stage1.{subscript_numbers, once}
-use Rattle.lower_assign.specs.declared.operand.Operand.{Operand}
-use Rattle.lower_assign.specs.declared.operand.Subscript.{Subscript}
-use Rattle.lower_assign.specs.Scopes.{Scope}
-use Rattle.lower_assign.specs.Lowerings.{Lowered, Lowering, done, giving, ◌>>=◌ as ◌then◌}
-use Rattle.lower_assign.specs.Operations.{values_of, first_elem, binary_of, binary_operation, value_of_whole, in_parentheses, unary_operation, call_on, vector}
-use Rattle.lower_assign.specs.References.{reference, load_of, loaded, designated}
-use Rattle.lower_assign.specs.Values.{part_of, value, values, subscripts, called, nested}
+use Rattle.lower_values.specs.declared.operand.Operand.{Operand}
+use Rattle.lower_values.specs.declared.operand.Subscript.{Subscript}
+use Rattle.lower_values.specs.Scopes.{Scope}
+use Rattle.lower_values.specs.Lowerings.{Lowered, Lowering, done, giving, ◌>>=◌ as ◌then◌}
+use Rattle.lower_values.specs.Operations.{values_of, first_elem, binary_of, binary_operation, value_of_whole, in_parentheses, unary_operation, call_on, vector}
+use Rattle.lower_values.specs.References.{reference, load_of, loaded, designated}
+use Rattle.lower_values.specs.Values.{part_of, value, values, subscripts, called, nested}
 use Rattle.value_laws.specs.Standing.{Does, Stands}
 use Rattle.value_laws.specs.Names.{Agrees}
 use Rattle.value_laws.specs.Sound.{IsSound, IsSoundCall, AreSound, IsClear}

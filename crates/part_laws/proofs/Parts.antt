@@ -17,11 +17,11 @@ use Rattle.array_meaning.specs.declared.term.Pick.{Pick}
 use Rattle.array_meaning.specs.Stage1 as source
 use Rattle.hlfir_ops.specs.Numbers.{numbers_of}
 use Rattle.hlfir_meaning.specs.Environments.{Environment}
-use Rattle.lower_assign.specs.declared.operand.Operand.{Operand}
-use Rattle.lower_assign.specs.Scopes.{Scope}
-use Rattle.lower_assign.specs.Lowerings.{Lowering, ◌>>=◌ as ◌then◌}
-use Rattle.lower_assign.specs.References.{declare_of, boxed, reference, loaded, designated}
-use Rattle.lower_assign.specs.Values.{part_of, subscripts}
+use Rattle.lower_values.specs.declared.operand.Operand.{Operand}
+use Rattle.lower_values.specs.Scopes.{Scope}
+use Rattle.lower_values.specs.Lowerings.{Lowering, ◌>>=◌ as ◌then◌}
+use Rattle.lower_values.specs.References.{declare_of, boxed, reference, loaded, designated}
+use Rattle.lower_values.specs.Values.{part_of, subscripts}
 use Rattle.value_laws.specs.Standing.{Kept, Does}
 use Rattle.value_laws.proofs.Elementals.{own-small, own-wider}
 use Rattle.value_laws.proofs.Walking.{does-then, does-scoped}

@@ -4,9 +4,9 @@ use Rattle.hlfir_ops.specs.RulesForms.{section_rank}
 use Rattle.hlfir_meaning.specs.Environments.{Selection, Value, variable, scalar, array, part, computed, column, placed, Environment, standing}
 use Rattle.hlfir_meaning.specs.Selections.{extents}
 use Rattle.hlfir_meaning.specs.Stage1.{with_vector}
-use Rattle.lower_assign.specs.declared.operand.Subscript.{Subscript}
-use Rattle.lower_assign.specs.declared.operand.Subscript.TheVariants.{One, Range, Vector}
-use Rattle.lower_assign.specs.References.{sub_kind}
+use Rattle.lower_values.specs.declared.operand.Subscript.{Subscript}
+use Rattle.lower_values.specs.declared.operand.Subscript.TheVariants.{One, Range, Vector}
+use Rattle.lower_values.specs.References.{sub_kind}
 use Rattle.part_laws.specs.Selects.{selected_by}
 
 vector_rank : (x : Value) (s : Selection) → length (extents (with_vector x s)) ≡ suc (length (extents s))

@@ -18,9 +18,9 @@ use Rattle.hlfir_ops.specs.declared.kinds.ValueKind.TheVariants as kind
 use Rattle.hlfir_ops.specs.Numbers.{numbers_of}
 use Rattle.hlfir_ops.specs.RulesValues.{rank_of}
 use Rattle.hlfir_meaning.specs.Environments.{Environment}
-use Rattle.lower_assign.specs.declared.operand.Operand.{Operand}
-use Rattle.lower_assign.specs.Scopes.{Scope}
-use Rattle.lower_assign.specs.Values.{value, subscript}
+use Rattle.lower_values.specs.declared.operand.Operand.{Operand}
+use Rattle.lower_values.specs.Scopes.{Scope}
+use Rattle.lower_values.specs.Values.{value, subscript}
 use Rattle.value_laws.specs.Standing.{Does, Stands, settled, StandsSettled}
 use Rattle.value_laws.specs.Arguments as values
 use Rattle.value_laws.specs.Arguments.{LeavesAs}

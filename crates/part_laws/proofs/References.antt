@@ -17,10 +17,10 @@ use Rattle.hlfir_ops.proofs.Numbered.{op_numbers-op_of}
 use Rattle.hlfir_meaning.specs.Environments.{Value, variable, Environment, with_value}
 use Rattle.hlfir_meaning.specs.References as references
 use Rattle.hlfir_meaning.specs.Stage1 as walked
-use Rattle.lower_assign.specs.declared.operand.Operand.{Operand}
-use Rattle.lower_assign.specs.Scopes.{Scope}
-use Rattle.lower_assign.specs.Lowerings.{giving}
-use Rattle.lower_assign.specs.References.{box_of, boxed}
+use Rattle.lower_values.specs.declared.operand.Operand.{Operand}
+use Rattle.lower_values.specs.Scopes.{Scope}
+use Rattle.lower_values.specs.Lowerings.{giving}
+use Rattle.lower_values.specs.References.{box_of, boxed}
 use Rattle.value_laws.specs.Standing.{Goes, Does}
 use Rattle.value_laws.specs.Variables.{IsArrayOf, Fits, IsNamed}
 use Rattle.value_laws.proofs.Walking.{with_value-here, goes-op, does-done}

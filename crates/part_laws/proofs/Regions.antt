@@ -5,9 +5,9 @@ use Rattle.hlfir_ops.specs.declared.what.What.TheVariants as what
 use Rattle.hlfir_ops.specs.Numbers.{numbers_of}
 use Rattle.hlfir_meaning.specs.Environments.{Environment, Yielded, yielding}
 use Rattle.hlfir_meaning.specs.Stage1.{subscript_numbers, once}
-use Rattle.lower_assign.specs.declared.operand.Operand.{Operand}
-use Rattle.lower_assign.specs.Scopes.{Scope}
-use Rattle.lower_assign.specs.Lowerings.{Lowering, acting, ◌>>=◌ as ◌then◌}
+use Rattle.lower_values.specs.declared.operand.Operand.{Operand}
+use Rattle.lower_values.specs.Scopes.{Scope}
+use Rattle.lower_values.specs.Lowerings.{Lowering, acting, ◌>>=◌ as ◌then◌}
 use Rattle.value_laws.specs.Standing.{Does}
 use Rattle.value_laws.proofs.Ops.{ending}
 use Rattle.part_laws.specs.Lefts.{region_of, Ends}

@@ -22,12 +22,12 @@ use Rattle.hlfir_meaning.specs.Environments.{variable, part, Environment, with_v
 use Rattle.hlfir_meaning.specs.References.{allocated}
 use Rattle.hlfir_meaning.specs.Selections.{extents, checked}
 use Rattle.hlfir_meaning.specs.Stage1 as walked
-use Rattle.lower_assign.specs.declared.operand.Operand.{Operand}
-use Rattle.lower_assign.specs.declared.operand.Subscript.{Subscript}
-use Rattle.lower_assign.specs.Scopes.{Scope}
-use Rattle.lower_assign.specs.Lowerings.{Lowering, giving, ◌>>=◌ as ◌then◌}
-use Rattle.lower_assign.specs.References.{sub_kind, sub_values, part_kind, declare_of, box_of, boxed, reference, designated}
-use Rattle.lower_assign.specs.Values.{part_of, subscripts}
+use Rattle.lower_values.specs.declared.operand.Operand.{Operand}
+use Rattle.lower_values.specs.declared.operand.Subscript.{Subscript}
+use Rattle.lower_values.specs.Scopes.{Scope}
+use Rattle.lower_values.specs.Lowerings.{Lowering, giving, ◌>>=◌ as ◌then◌}
+use Rattle.lower_values.specs.References.{sub_kind, sub_values, part_kind, declare_of, box_of, boxed, reference, designated}
+use Rattle.lower_values.specs.Values.{part_of, subscripts}
 use Rattle.value_laws.specs.Standing.{Goes, Does}
 use Rattle.value_laws.proofs.Scalars.{settled-not}
 use Rattle.value_laws.proofs.Walking.{goes-op, does-done, does-then, does-scoped}

@@ -22,11 +22,11 @@ use Rattle.hlfir_meaning.specs.Places.{column_at}
 use Rattle.hlfir_meaning.specs.Selections.{array_operand, extents}
 use Rattle.hlfir_meaning.specs.Stage1 as walked
 use Rattle.hlfir_meaning.specs.Stage2.{done}
-use Rattle.lower_assign.specs.declared.operand.Operand.{Operand}
-use Rattle.lower_assign.specs.declared.operand.Subscript.{Subscript}
-use Rattle.lower_assign.specs.Scopes.{Scope}
-use Rattle.lower_assign.specs.Lowerings.{Lowering, ◌>>=◌ as ◌then◌, giving}
-use Rattle.lower_assign.specs.References.{part_kind, load_of, loaded, designated}
+use Rattle.lower_values.specs.declared.operand.Operand.{Operand}
+use Rattle.lower_values.specs.declared.operand.Subscript.{Subscript}
+use Rattle.lower_values.specs.Scopes.{Scope}
+use Rattle.lower_values.specs.Lowerings.{Lowering, ◌>>=◌ as ◌then◌, giving}
+use Rattle.lower_values.specs.References.{part_kind, load_of, loaded, designated}
 use Rattle.value_laws.specs.Standing.{Does, Gives, AreIn, Stands}
 use Rattle.value_laws.specs.Variables.{IsNamed, IsWholeWhereNamed}
 use Rattle.value_laws.proofs.Ordered.{ordered-one}

@@ -18,11 +18,11 @@ use Rattle.array_meaning.specs.Stage1 as source
 use Rattle.hlfir_ops.specs.Numbers.{numbers_of}
 use Rattle.hlfir_ops.specs.RulesValues.{rank_of}
 use Rattle.hlfir_meaning.specs.Environments.{variable, Environment}
-use Rattle.lower_assign.specs.declared.operand.Operand.{Operand}
-use Rattle.lower_assign.specs.Scopes.{Scope}
-use Rattle.lower_assign.specs.Lowerings.{Lowering, done, ◌>>=◌ as ◌then◌}
-use Rattle.lower_assign.specs.References.{subscript_of}
-use Rattle.lower_assign.specs.Values.{value, subscripts, subscript}
+use Rattle.lower_values.specs.declared.operand.Operand.{Operand}
+use Rattle.lower_values.specs.Scopes.{Scope}
+use Rattle.lower_values.specs.Lowerings.{Lowering, done, ◌>>=◌ as ◌then◌}
+use Rattle.lower_values.specs.References.{subscript_of}
+use Rattle.lower_values.specs.Values.{value, subscripts, subscript}
 use Rattle.value_laws.specs.Standing.{Kept, Does, settled}
 use Rattle.value_laws.proofs.Copies.{settled-subscript}
 use Rattle.value_laws.proofs.Walking.{does-done, does-then}

@@ -19,10 +19,10 @@ use Rattle.hlfir_ops.specs.declared.kinds.ValueKind.TheVariants as kind
 use Rattle.hlfir_ops.specs.declared.op.ValueId.{ValueId}
 use Rattle.hlfir_ops.specs.RulesValues.{rank_of}
 use Rattle.hlfir_meaning.specs.Environments.{Value, variable, Environment}
-use Rattle.lower_assign.specs.declared.operand.Operand.{Operand}
-use Rattle.lower_assign.specs.Scopes.{Scope}
-use Rattle.lower_assign.specs.Lowerings.{Lowering, done, giving, ◌>>=◌ as ◌then◌}
-use Rattle.lower_assign.specs.References.{boxed, loaded}
+use Rattle.lower_values.specs.declared.operand.Operand.{Operand}
+use Rattle.lower_values.specs.Scopes.{Scope}
+use Rattle.lower_values.specs.Lowerings.{Lowering, done, giving, ◌>>=◌ as ◌then◌}
+use Rattle.lower_values.specs.References.{boxed, loaded}
 use Rattle.value_laws.specs.Standing.{Does, Stands, StandsSettled}
 use Rattle.value_laws.specs.Variables.{IsArrayOf, Fits, IsWhole, IsNamed, IsWholeWhereNamed}
 use Rattle.value_laws.proofs.Names.{whole_operands, does-variable}

@@ -27,14 +27,14 @@ use Rattle.hlfir_ops.specs.RulesValues.{rank_of}
 use Rattle.hlfir_meaning.specs.Environments.{variable, Environment, scalar_in, state_in}
 use Rattle.hlfir_meaning.specs.References.{allocated, bound_value, inquired}
 use Rattle.hlfir_meaning.specs.Stage1 as walked
-use Rattle.lower_assign.specs.declared.operand.Operand.{Operand}
-use Rattle.lower_assign.specs.declared.operand.Subscript.{Subscript}
-use Rattle.lower_assign.specs.declared.operand.Subscript.TheVariants.{Range}
-use Rattle.lower_assign.specs.Scopes.{Scope}
-use Rattle.lower_assign.specs.Lowerings.{Lowering, done, ◌>>=◌ as ◌then◌}
-use Rattle.lower_assign.specs.Operations.{constant}
-use Rattle.lower_assign.specs.References.{bound}
-use Rattle.lower_assign.specs.Values.{value, given_or}
+use Rattle.lower_values.specs.declared.operand.Operand.{Operand}
+use Rattle.lower_values.specs.declared.operand.Subscript.{Subscript}
+use Rattle.lower_values.specs.declared.operand.Subscript.TheVariants.{Range}
+use Rattle.lower_values.specs.Scopes.{Scope}
+use Rattle.lower_values.specs.Lowerings.{Lowering, done, ◌>>=◌ as ◌then◌}
+use Rattle.lower_values.specs.Operations.{constant}
+use Rattle.lower_values.specs.References.{bound}
+use Rattle.lower_values.specs.Values.{value, given_or}
 use Rattle.value_laws.specs.Standing.{Kept, Does, Stands}
 use Rattle.value_laws.proofs.Elementals.{own-small}
 use Rattle.value_laws.proofs.Scalars.{does-scalar, does-constant}

@@ -19,10 +19,10 @@ use Rattle.hlfir_meaning.specs.References.{held_extents, held_values}
 use Rattle.hlfir_meaning.specs.Selections.{array_operand, first_extent, extents, columns}
 use Rattle.hlfir_meaning.specs.Stage1.{with_vector}
 use Rattle.hlfir_meaning.specs.Stage2.{operands, deferred_by, stage2}
-use Rattle.lower_assign.specs.declared.operand.Operand.{Operand}
-use Rattle.lower_assign.specs.declared.operand.Subscript.{Subscript}
-use Rattle.lower_assign.specs.declared.operand.Subscript.TheVariants.{One, Vector}
-use Rattle.lower_assign.specs.References.{subscript_of}
+use Rattle.lower_values.specs.declared.operand.Operand.{Operand}
+use Rattle.lower_values.specs.declared.operand.Subscript.{Subscript}
+use Rattle.lower_values.specs.declared.operand.Subscript.TheVariants.{One, Vector}
+use Rattle.lower_values.specs.References.{subscript_of}
 use Rattle.value_laws.specs.Standing.{Kept, AreIn, Stands}
 use Rattle.value_laws.proofs.Elementals.{own-small}
 use Rattle.value_laws.proofs.Evaluated.{values-same}

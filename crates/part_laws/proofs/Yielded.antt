@@ -7,9 +7,9 @@ use Rattle.array_meaning.specs.declared.term.Term.TheVariants as term
 use Rattle.array_meaning.specs.Stage1 as source
 use Rattle.hlfir_meaning.specs.Environments.{Environment, yielding}
 use Rattle.hlfir_meaning.specs.Stage1.{subscript_numbers}
-use Rattle.lower_assign.specs.declared.operand.Operand.{Operand}
-use Rattle.lower_assign.specs.Scopes.{Scope}
-use Rattle.lower_assign.specs.Values.{value}
+use Rattle.lower_values.specs.declared.operand.Operand.{Operand}
+use Rattle.lower_values.specs.Scopes.{Scope}
+use Rattle.lower_values.specs.Values.{value}
 use Rattle.value_laws.specs.Standing.{Stands}
 use Rattle.value_laws.specs.Names.{Agrees}
 use Rattle.value_laws.specs.Sound.{IsSound, IsClear}

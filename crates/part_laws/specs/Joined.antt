@@ -11,11 +11,11 @@ use Rattle.array_meaning.specs.Stage1 as source
 use Rattle.hlfir_ops.specs.Numbers.{numbers_of}
 use Rattle.hlfir_ops.specs.RulesValues.{rank_of}
 use Rattle.hlfir_meaning.specs.Environments.{Environment}
-use Rattle.lower_assign.specs.declared.names.Names.{Names}
-use Rattle.lower_assign.specs.declared.operand.Operand.{Operand}
-use Rattle.lower_assign.specs.Scopes.{Scope}
-use Rattle.lower_assign.specs.References.{variable_of, reference}
-use Rattle.lower_assign.specs.Values.{value, part_of, subscripts}
+use Rattle.lower_values.specs.declared.names.Names.{Names}
+use Rattle.lower_values.specs.declared.operand.Operand.{Operand}
+use Rattle.lower_values.specs.Scopes.{Scope}
+use Rattle.lower_values.specs.References.{variable_of, reference}
+use Rattle.lower_values.specs.Values.{value, part_of, subscripts}
 use Rattle.value_laws.specs.Standing.{Does}
 use Rattle.value_laws.specs.Laws as values
 use Rattle.value_laws.specs.Names.{DeclareStands, Agrees}

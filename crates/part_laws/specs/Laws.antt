@@ -24,12 +24,12 @@ use Rattle.hlfir_ops.specs.declared.op.ValueId.{ValueId}
 use Rattle.hlfir_meaning.specs.Environments.{Selection, variable, Environment}
 use Rattle.hlfir_meaning.specs.Selections.{array_operand, extents, columns, checked}
 use Rattle.hlfir_meaning.specs.Stage2.{targets}
-use Rattle.lower_assign.specs.declared.operand.Operand.{Operand}
-use Rattle.lower_assign.specs.declared.operand.Subscript.{Subscript}
-use Rattle.lower_assign.specs.Scopes.{Scope}
-use Rattle.lower_assign.specs.Lowerings.{Lowering, next}
-use Rattle.lower_assign.specs.References.{declare_of, boxed, loaded, designated}
-use Rattle.lower_assign.specs.Values.{part_of, value, subscripts}
+use Rattle.lower_values.specs.declared.operand.Operand.{Operand}
+use Rattle.lower_values.specs.declared.operand.Subscript.{Subscript}
+use Rattle.lower_values.specs.Scopes.{Scope}
+use Rattle.lower_values.specs.Lowerings.{Lowering, next}
+use Rattle.lower_values.specs.References.{declare_of, boxed, loaded, designated}
+use Rattle.lower_values.specs.Values.{part_of, value, subscripts}
 use Rattle.value_laws.specs.Standing.{Does, AreIn, StandsSettled}
 use Rattle.value_laws.specs.Variables.{Fits, IsNamed}
 use Rattle.part_laws.specs.Selects.{Selects, selected_by, Agree}

@@ -20,11 +20,11 @@ use Rattle.hlfir_meaning.specs.Environments.{Selection, variable, part, Environm
 use Rattle.hlfir_meaning.specs.Selections.{array_operand, extents}
 use Rattle.hlfir_meaning.specs.Stage1.{subscript_numbers, walk}
 use Rattle.hlfir_meaning.specs.Stage2.{targets}
-use Rattle.lower_assign.specs.declared.operand.Operand.{Operand}
-use Rattle.lower_assign.specs.Scopes.{Scope}
-use Rattle.lower_assign.specs.Lowerings.{Lowering}
-use Rattle.lower_assign.specs.References.{variable_of, declare_of, reference}
-use Rattle.lower_assign.specs.Values.{part_of, subscripts}
+use Rattle.lower_values.specs.declared.operand.Operand.{Operand}
+use Rattle.lower_values.specs.Scopes.{Scope}
+use Rattle.lower_values.specs.Lowerings.{Lowering}
+use Rattle.lower_values.specs.References.{variable_of, declare_of, reference}
+use Rattle.lower_values.specs.Values.{part_of, subscripts}
 use Rattle.lower_assign.specs.Statements.{yielded, left_of}
 use Rattle.value_laws.specs.Standing.{AreIn}
 use Rattle.value_laws.specs.Names.{DeclareStands, Agrees}

@@ -14,8 +14,8 @@ use Rattle.hlfir_ops.specs.declared.kinds.Elem.{Elem}
 use Rattle.hlfir_ops.specs.declared.kinds.ValueKind.{ValueKind}
 use Rattle.hlfir_ops.specs.RulesValues.{rank_of}
 use Rattle.hlfir_meaning.specs.Environments.{Selection, Value, variable, array, part, Environment}
-use Rattle.lower_assign.specs.declared.operand.Operand.{Operand}
-use Rattle.lower_assign.specs.References.{part_kind}
+use Rattle.lower_values.specs.declared.operand.Operand.{Operand}
+use Rattle.lower_values.specs.References.{part_kind}
 use Rattle.value_laws.specs.Standing.{IsOwn, Stands}
 use Rattle.value_laws.specs.Variables.{IsArrayOf, IsNamed}
 use Rattle.part_laws.specs.Selects.{Selects}

@@ -12,8 +12,8 @@ use Rattle.array_meaning.specs.Stage2 as later
 use Rattle.hlfir_meaning.specs.Environments.{Environment, Selection, complete, one, range, listed, through}
 use Rattle.hlfir_meaning.specs.Selections.{first_extent, extents, columns}
 use Rattle.hlfir_meaning.specs.Stage1.{selection}
-use Rattle.lower_assign.specs.declared.operand.Subscript.{Subscript}
-use Rattle.lower_assign.specs.References.{sub_kind, sub_values}
+use Rattle.lower_values.specs.declared.operand.Subscript.{Subscript}
+use Rattle.lower_values.specs.References.{sub_kind, sub_values}
 
 -- A vector has as many subscripts as the term, and the term's values at all their places, or its fault.
 pub record IsVector (n : ℕ) (given : List ℕ → Staged (List ℤ)) (t : Term) : Type 0 where

@@ -26,12 +26,12 @@ use Rattle.hlfir_ops.specs.declared.what.BoundWord.TheVariants.{Lower, Upper}
 use Rattle.hlfir_ops.specs.Numbers.{numbers_of}
 use Rattle.hlfir_ops.specs.RulesValues.{rank_of}
 use Rattle.hlfir_meaning.specs.Environments.{variable, Environment}
-use Rattle.lower_assign.specs.declared.operand.Operand.{Operand}
-use Rattle.lower_assign.specs.declared.operand.Subscript.{Subscript}
-use Rattle.lower_assign.specs.Scopes.{Scope}
-use Rattle.lower_assign.specs.Lowerings.{Lowering}
-use Rattle.lower_assign.specs.References.{declare_of, reference, bound}
-use Rattle.lower_assign.specs.Values.{value, values, given_or, subscript}
+use Rattle.lower_values.specs.declared.operand.Operand.{Operand}
+use Rattle.lower_values.specs.declared.operand.Subscript.{Subscript}
+use Rattle.lower_values.specs.Scopes.{Scope}
+use Rattle.lower_values.specs.Lowerings.{Lowering}
+use Rattle.lower_values.specs.References.{declare_of, reference, bound}
+use Rattle.lower_values.specs.Values.{value, values, given_or, subscript}
 use Rattle.value_laws.specs.Standing.{Kept, Does, Stands, StandEach, settled}
 use Rattle.value_laws.specs.Singles.{IsSingle}
 use Rattle.value_laws.specs.Variables.{Fits, IsNamed}

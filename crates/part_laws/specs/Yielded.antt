@@ -10,8 +10,8 @@ use Rattle.array_meaning.specs.Stage2 as later
 use Rattle.hlfir_meaning.specs.Environments.{Value, variable, scalar, Environment, Yielded, result}
 use Rattle.hlfir_meaning.specs.Stage1.{subscript_numbers}
 use Rattle.hlfir_meaning.specs.Stage2.{operands, values}
-use Rattle.lower_assign.specs.Scopes.{Scope}
-use Rattle.lower_assign.specs.Values.{value}
+use Rattle.lower_values.specs.Scopes.{Scope}
+use Rattle.lower_values.specs.Values.{value}
 use Rattle.value_laws.specs.Standing.{AreIn}
 use Rattle.value_laws.specs.Names.{Agrees}
 use Rattle.value_laws.specs.Sound.{IsSound, IsClear}

@@ -15,10 +15,10 @@ use Rattle.hlfir_ops.specs.Trees.{op_of}
 use Rattle.hlfir_ops.specs.Numbers.{own_numbers, order_of}
 use Rattle.hlfir_ops.specs.Rules.{where_of, forall_of}
 use Rattle.hlfir_ops.specs.RulesValues.{Value}
-use Rattle.lower_assign.specs.declared.names.Variable.{Variable}
-use Rattle.lower_assign.specs.Lowerings.{Lowering, done, in_turn, giving, regions_from, statement_of}
-use Rattle.lower_assign.specs.References.{declare_of}
-use Rattle.lower_assign.specs.Values.{value}
+use Rattle.lower_values.specs.declared.names.Variable.{Variable}
+use Rattle.lower_values.specs.Lowerings.{Lowering, done, in_turn, giving, regions_from, statement_of}
+use Rattle.lower_values.specs.References.{declare_of}
+use Rattle.lower_values.specs.Values.{value}
 use Rattle.lower_assign.specs.Statements.{yielded, all_yielded, left, item, is_whole_allocatable, assignment, all_bounds, allocation, deallocation, reading}
 use Rattle.lower_constructs.specs.Modules.{forall_mask, declaration}
 use Rattle.place_laws.proofs.Printed.{all-weaker, parts-op_of, Everywhere}

@@ -30,10 +30,10 @@ use Rattle.hlfir_ops.specs.RulesValues.{Value}
 use Rattle.kind_laws.specs.Standing.{Knows}
 use Rattle.kind_laws.specs.Found.{ScopeIsFound}
 use Rattle.kind_laws.proofs.NoFaults.{none_first, none_after}
-use Rattle.lower_assign.specs.Scopes.{inside}
-use Rattle.lower_assign.specs.Lowerings.{◌>>=◌, scoped, regions_from, statement_of}
-use Rattle.lower_assign.specs.References.{declare_of}
-use Rattle.lower_assign.specs.Values.{value}
+use Rattle.lower_values.specs.Scopes.{inside}
+use Rattle.lower_values.specs.Lowerings.{◌>>=◌, scoped, regions_from, statement_of}
+use Rattle.lower_values.specs.References.{declare_of}
+use Rattle.lower_values.specs.Values.{value}
 use Rattle.lower_assign.specs.Statements.{yielded, all_yielded}
 use Rattle.lower_constructs.specs.Lists.{mask_of}
 use Rattle.lower_constructs.specs.Modules.{triple, triples, forall_mask, third, elsewhere, statement, statements, elsewheres, statement_list}

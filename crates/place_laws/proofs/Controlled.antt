@@ -31,9 +31,9 @@ use Rattle.kind_laws.specs.Standing.{Knows}
 use Rattle.kind_laws.specs.Found.{RegionsHeld, ScopeIsFound}
 use Rattle.kind_laws.proofs.NoFaults.{none_first, none_after, impossible}
 use Rattle.kind_laws.proofs.TypedExpressions.{type_known}
-use Rattle.lower_assign.specs.Scopes.{Scope, inside}
-use Rattle.lower_assign.specs.Lowerings.{Lowering, scoped, acting, regions_from, statement_of}
-use Rattle.lower_assign.specs.Values.{value}
+use Rattle.lower_values.specs.Scopes.{Scope, inside}
+use Rattle.lower_values.specs.Lowerings.{Lowering, scoped, acting, regions_from, statement_of}
+use Rattle.lower_values.specs.Values.{value}
 use Rattle.lower_assign.specs.Statements.{yielded, left, is_whole_allocatable, assignment}
 use Rattle.lower_constructs.specs.Modules.{third, elsewhere, statement, statements, elsewheres}
 use Rattle.place_laws.proofs.Printed.{all-weaker, parts-op_of, Everywhere}

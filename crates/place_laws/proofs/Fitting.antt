@@ -17,8 +17,8 @@ use Rattle.hlfir_ops.specs.RulesRegions.{last_of}
 use Rattle.hlfir_ops.specs.RulesStatements.{is_statement, is_declare, declares, is_also, is_like, follows, also_follows}
 use Rattle.kind_laws.proofs.Sited.{op_sites-parts, sites_of-append, defined_by}
 use Rattle.kind_laws.proofs.Ends.{ops-region_of}
-use Rattle.lower_assign.specs.Scopes.{Scope, inside}
-use Rattle.lower_assign.specs.Lowerings.{Lowering, done, ◌>>=◌, scoped, regions_from, holding, statement_of}
+use Rattle.lower_values.specs.Scopes.{Scope, inside}
+use Rattle.lower_values.specs.Lowerings.{Lowering, done, ◌>>=◌, scoped, regions_from, holding, statement_of}
 use Rattle.place_laws.proofs.Printed.{all-append, all_pass, parts-op_of, Everywhere}
 use Rattle.place_laws.proofs.Plain.{is_plain, plain, Plain}
 

@@ -15,10 +15,10 @@ use Rattle.hlfir_ops.specs.Numbers.{own_numbers, numbers_of}
 use Rattle.hlfir_ops.specs.Rules.{holds_statements, lists_fit}
 use Rattle.hlfir_ops.specs.RulesRegions.{last_of}
 use Rattle.hlfir_ops.specs.RulesStatements.{is_statement, is_declare, declares, same_sort, is_also, is_like}
-use Rattle.lower_assign.specs.declared.names.Variable.{Variable}
-use Rattle.lower_assign.specs.Scopes.{Scope}
-use Rattle.lower_assign.specs.Lowerings.{Lowering, done, ◌>>=◌, scoped, in_turn, giving, regions_from, holding, statement_of}
-use Rattle.lower_assign.specs.References.{declare_of}
+use Rattle.lower_values.specs.declared.names.Variable.{Variable}
+use Rattle.lower_values.specs.Scopes.{Scope}
+use Rattle.lower_values.specs.Lowerings.{Lowering, done, ◌>>=◌, scoped, in_turn, giving, regions_from, holding, statement_of}
+use Rattle.lower_values.specs.References.{declare_of}
 use Rattle.lower_assign.specs.Statements.{yielded, all_yielded, item, all_bounds, allocation, deallocation, reading}
 use Rattle.lower_constructs.specs.Modules.{declaration}
 use Rattle.place_laws.proofs.Printed.{all-append, parts-op_of}

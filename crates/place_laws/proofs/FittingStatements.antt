@@ -28,10 +28,10 @@ use Rattle.hlfir_ops.specs.RulesPlaces.{outermost}
 use Rattle.hlfir_ops.specs.RulesRegions.{last_of}
 use Rattle.hlfir_ops.specs.RulesStatements.{is_statement, is_also, is_like, stands_in_workshare, stands_in_program}
 use Rattle.lower_assign.specs.Known.{names_of}
-use Rattle.lower_assign.specs.Scopes.{Scope, inside, scope_at}
-use Rattle.lower_assign.specs.Lowerings.{Lowering, ◌>>=◌, in_turn, regions_from, statement_of}
-use Rattle.lower_assign.specs.References.{declare_of}
-use Rattle.lower_assign.specs.Values.{value}
+use Rattle.lower_values.specs.Scopes.{Scope, inside, scope_at}
+use Rattle.lower_values.specs.Lowerings.{Lowering, ◌>>=◌, in_turn, regions_from, statement_of}
+use Rattle.lower_values.specs.References.{declare_of}
+use Rattle.lower_values.specs.Values.{value}
 use Rattle.lower_assign.specs.Statements.{yielded, all_yielded, left, is_whole_allocatable, assignment, allocation, deallocation, reading}
 use Rattle.lower_constructs.specs.Modules.{triple, triples, forall_mask, third, elsewhere, statement, statements, elsewheres, statement_list, declaration, lowered}
 use Rattle.kind_laws.proofs.NoFaults.{none_first, none_after}

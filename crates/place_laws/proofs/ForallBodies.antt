@@ -29,12 +29,12 @@ use Rattle.kind_laws.specs.Standing.{Knows}
 use Rattle.kind_laws.specs.Found.{Holds, ScopeIsFound}
 use Rattle.kind_laws.proofs.NoFaults.{none_first, none_after, impossible}
 use Rattle.kind_laws.proofs.TypedExpressions.{type_known}
-use Rattle.lower_assign.specs.declared.operand.Operand.{Operand}
-use Rattle.lower_assign.specs.declared.operand.Subscript.{Subscript}
-use Rattle.lower_assign.specs.Scopes.{Scope, inside}
-use Rattle.lower_assign.specs.Lowerings.{Lowering, done, ◌>>=◌, scoped, acting, regions_from, statement_of}
-use Rattle.lower_assign.specs.References.{reference, sub_kind, sub_values, part_kind, designated}
-use Rattle.lower_assign.specs.Values.{value, part_of, subscripts}
+use Rattle.lower_values.specs.declared.operand.Operand.{Operand}
+use Rattle.lower_values.specs.declared.operand.Subscript.{Subscript}
+use Rattle.lower_values.specs.Scopes.{Scope, inside}
+use Rattle.lower_values.specs.Lowerings.{Lowering, done, ◌>>=◌, scoped, acting, regions_from, statement_of}
+use Rattle.lower_values.specs.References.{reference, sub_kind, sub_values, part_kind, designated}
+use Rattle.lower_values.specs.Values.{value, part_of, subscripts}
 use Rattle.lower_assign.specs.Statements.{yielded, left, is_whole_allocatable, assignment}
 use Rattle.lower_constructs.specs.Modules.{forall_mask, statement, statements}
 use Rattle.place_laws.proofs.Printed.{all-append, parts-op_of}

@@ -12,9 +12,9 @@ use Rattle.hlfir_ops.specs.Numbers.{names_in, numbers_of}
 use Rattle.hlfir_ops.specs.RulesValues.{Value}
 use Rattle.kind_laws.specs.Standing.{Knows}
 use Rattle.kind_laws.specs.Found.{Holds, RegionsHeld, ScopeIsFound}
-use Rattle.lower_assign.specs.Scopes.{Scope, inside}
-use Rattle.lower_assign.specs.Lowerings.{Lowering, done, ◌>>=◌, regions_from, statement_of}
-use Rattle.lower_assign.specs.Values.{value}
+use Rattle.lower_values.specs.Scopes.{Scope, inside}
+use Rattle.lower_values.specs.Lowerings.{Lowering, done, ◌>>=◌, regions_from, statement_of}
+use Rattle.lower_values.specs.Values.{value}
 use Rattle.lower_assign.specs.Statements.{yielded}
 use Rattle.lower_constructs.specs.Modules.{third, elsewhere, statements, elsewheres}
 use Rattle.lower_constructs.specs.Lists.{mask_of}

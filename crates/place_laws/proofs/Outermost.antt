@@ -3,8 +3,8 @@ use Rattle.std.proofs.Common.{refl, []}
 use Rattle.ws_tree.specs.declared.stmt.Tree.{Tree}
 use Rattle.hlfir_ops.specs.RulesValues.{values_of}
 use Rattle.lower_assign.specs.Known.{names_of}
-use Rattle.lower_assign.specs.Scopes.{scope_at}
-use Rattle.lower_assign.specs.Lowerings.{done, ◌>>=◌, in_turn, giving}
+use Rattle.lower_values.specs.Scopes.{scope_at}
+use Rattle.lower_values.specs.Lowerings.{done, ◌>>=◌, in_turn, giving}
 use Rattle.lower_constructs.specs.Modules.{declaration, statement_list, lowered}
 use Rattle.kind_laws.specs.Found.{ScopeIsFound}
 use Rattle.kind_laws.proofs.Held.{held-whole, held-first}

@@ -12,8 +12,8 @@ use Rattle.hlfir_ops.specs.RulesPlaces.{outermost}
 use Rattle.hlfir_ops.specs.RulesValues.{values_of}
 use Rattle.kind_laws.proofs.NamesKnown.{names_are_known}
 use Rattle.lower_assign.specs.Known.{names_of}
-use Rattle.lower_assign.specs.Scopes.{scope_at}
-use Rattle.lower_assign.specs.Lowerings.{in_turn}
+use Rattle.lower_values.specs.Scopes.{scope_at}
+use Rattle.lower_values.specs.Lowerings.{in_turn}
 use Rattle.lower_constructs.specs.Modules.{statement_list, declaration, lowered}
 use Rattle.place_laws.specs.Laws.{WheresFit, ForallsFit}
 use Rattle.place_laws.proofs.Printed.{all_pass, Everywhere}

@@ -21,10 +21,10 @@ use Rattle.hlfir_ops.specs.Numbers.{own_numbers}
 use Rattle.hlfir_ops.specs.RulesValues.{elem_of, rank_of}
 use Rattle.hlfir_ops.specs.RulesForms.{result_elem, total_elem}
 use Rattle.hlfir_ops.specs.RulesRegions.{is_value_op, is_yield, is_yield_element}
-use Rattle.lower_assign.specs.declared.operand.Operand.{Operand}
-use Rattle.lower_assign.specs.Scopes.{Scope}
-use Rattle.lower_assign.specs.Lowerings.{Lowering, done, ◌>>=◌, scoped, giving, acting, regions_from}
-use Rattle.lower_assign.specs.Operations.{constant, rank_from, arranged, values_of, on_scalars, at_position, at_positions, element, at_each, operation, binary_operation, in_parentheses, unary_operation, joined, reduction_of, what_of, call_elem, first_elem, total_or, call_on, vector}
+use Rattle.lower_values.specs.declared.operand.Operand.{Operand}
+use Rattle.lower_values.specs.Scopes.{Scope}
+use Rattle.lower_values.specs.Lowerings.{Lowering, done, ◌>>=◌, scoped, giving, acting, regions_from}
+use Rattle.lower_values.specs.Operations.{constant, rank_from, arranged, values_of, on_scalars, at_position, at_positions, element, at_each, operation, binary_operation, in_parentheses, unary_operation, joined, reduction_of, what_of, call_elem, first_elem, total_or, call_on, vector}
 use Rattle.place_laws.proofs.Printed.{parts-op_of}
 use Rattle.place_laws.proofs.Simple.{Simple, is_simple, always-if, simple-constant, simple-in_parentheses}
 use Rattle.place_laws.proofs.Lowered.{Always, always-then, always-scoped, makes-done, makes-giving, makes-acting, makes-giving_by, regions-always}

@@ -8,12 +8,12 @@ use Rattle.ws_tree.specs.declared.stmt.Index.{Index}
 use Rattle.hlfir_ops.specs.declared.kinds.Elem.TheVariants.{I32}
 use Rattle.hlfir_ops.specs.declared.what.What.TheVariants as what
 use Rattle.hlfir_ops.specs.declared.op.ValueId.{ValueId}
-use Rattle.lower_assign.specs.declared.operand.Operand.{Operand}
-use Rattle.lower_assign.specs.Lowerings.{Lowering, done, ◌>>=◌, acting}
-use Rattle.lower_assign.specs.Operations.{constant}
-use Rattle.lower_assign.specs.References.{nothing, declare_of}
-use Rattle.lower_assign.specs.Values.{value, subscripts}
-use Rattle.lower_assign.specs.Lists.{given_or, stride}
+use Rattle.lower_values.specs.declared.operand.Operand.{Operand}
+use Rattle.lower_values.specs.Lowerings.{Lowering, done, ◌>>=◌, acting}
+use Rattle.lower_values.specs.Operations.{constant}
+use Rattle.lower_values.specs.References.{nothing, declare_of}
+use Rattle.lower_values.specs.Values.{value, subscripts}
+use Rattle.lower_values.specs.Lists.{given_or, stride}
 use Rattle.lower_assign.specs.Statements.{yielded, all_yielded, whole_left, left_of, left, bounds_of, all_bounds}
 use Rattle.lower_constructs.specs.Modules.{triple, triples}
 use Rattle.place_laws.proofs.Plain.{Plain, plain-done, plain-then, plain-acting, plain-scoped, plain-constant}

@@ -18,13 +18,13 @@ use Rattle.hlfir_ops.specs.declared.what.ValueBinary.{ValueBinary}
 use Rattle.hlfir_ops.specs.declared.what.What.TheVariants as what
 use Rattle.hlfir_ops.specs.RulesValues.{elem_of}
 use Rattle.hlfir_ops.specs.RulesForms.{section_rank}
-use Rattle.lower_assign.specs.declared.operand.Operand.{Operand}
-use Rattle.lower_assign.specs.declared.operand.Subscript.{Subscript}
-use Rattle.lower_assign.specs.declared.operand.Subscript.TheVariants.{Range}
-use Rattle.lower_assign.specs.Lowerings.{Lowering, done, ◌>>=◌}
-use Rattle.lower_assign.specs.Operations.{constant, binary_of, binary_operation, in_parentheses, unary_operation, nesting_of, joined, call_on, vector}
-use Rattle.lower_assign.specs.References.{or_nothing, boxed, reference, loaded, named, subscript_of, sub_kind, sub_values, bound, part_kind, designated, inquiry}
-use Rattle.lower_assign.specs.Values.{folded, call_by, part_of, value, values, nested, subscripts, subscript, given_or}
+use Rattle.lower_values.specs.declared.operand.Operand.{Operand}
+use Rattle.lower_values.specs.declared.operand.Subscript.{Subscript}
+use Rattle.lower_values.specs.declared.operand.Subscript.TheVariants.{Range}
+use Rattle.lower_values.specs.Lowerings.{Lowering, done, ◌>>=◌}
+use Rattle.lower_values.specs.Operations.{constant, binary_of, binary_operation, in_parentheses, unary_operation, nesting_of, joined, call_on, vector}
+use Rattle.lower_values.specs.References.{or_nothing, boxed, reference, loaded, named, subscript_of, sub_kind, sub_values, bound, part_kind, designated, inquiry}
+use Rattle.lower_values.specs.Values.{folded, call_by, part_of, value, values, nested, subscripts, subscript, given_or}
 use Rattle.place_laws.proofs.Simple.{simple-boxed, simple-reference, simple-loaded, simple-named, simple-bound, simple-inquiry, simple-folded}
 use Rattle.place_laws.proofs.Plain.{Plain, simple_plain, plain, plain-done, plain-then, plain-giving, plain-constant, plain-binary, plain-in_parentheses, plain-unary, plain-joined, plain-call, plain-vector}
 

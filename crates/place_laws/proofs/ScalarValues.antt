@@ -23,12 +23,12 @@ use Rattle.hlfir_ops.specs.declared.kinds.Elem.TheVariants.{I32, I1}
 use Rattle.hlfir_ops.specs.declared.what.ValueBinary.{ValueBinary}
 use Rattle.hlfir_ops.specs.RulesForms.{section_rank}
 use Rattle.hlfir_ops.specs.RulesStatements.{works_on_scalars}
-use Rattle.lower_assign.specs.declared.operand.Operand.{Operand}
-use Rattle.lower_assign.specs.Scopes.{Scope}
-use Rattle.lower_assign.specs.Lowerings.{Lowering, done, ◌>>=◌}
-use Rattle.lower_assign.specs.Operations.{binary_of, binary_operation, in_parentheses, unary_operation, nesting_of, joined, call_on}
-use Rattle.lower_assign.specs.References.{sub_kind, or_nothing, reference, loaded, named, subscript_of, designated, inquiry}
-use Rattle.lower_assign.specs.Values.{call_by, part_of, value, values, nested, subscripts, subscript}
+use Rattle.lower_values.specs.declared.operand.Operand.{Operand}
+use Rattle.lower_values.specs.Scopes.{Scope}
+use Rattle.lower_values.specs.Lowerings.{Lowering, done, ◌>>=◌}
+use Rattle.lower_values.specs.Operations.{binary_of, binary_operation, in_parentheses, unary_operation, nesting_of, joined, call_on}
+use Rattle.lower_values.specs.References.{sub_kind, or_nothing, reference, loaded, named, subscript_of, designated, inquiry}
+use Rattle.lower_values.specs.Values.{call_by, part_of, value, values, nested, subscripts, subscript}
 use Rattle.kind_laws.specs.Standing.{Knows}
 use Rattle.kind_laws.proofs.NoFaults.{none_first, none_after, impossible, left_false}
 use Rattle.kind_laws.proofs.TypeFacts.{no_type, not_chosen, unary_operand, binary_result, part_result}

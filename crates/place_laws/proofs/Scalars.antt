@@ -25,13 +25,13 @@ use Rattle.hlfir_ops.specs.Numbers.{numbers_of}
 use Rattle.hlfir_ops.specs.RulesValues.{elem_of, rank_of, is_section}
 use Rattle.hlfir_ops.specs.RulesForms.{result_elem, section_rank}
 use Rattle.hlfir_ops.specs.RulesStatements.{is_whole_op, works_on_scalars}
-use Rattle.lower_assign.specs.declared.operand.Operand.{Operand}
-use Rattle.lower_assign.specs.declared.operand.Subscript.{Subscript}
-use Rattle.lower_assign.specs.Scopes.{Scope}
-use Rattle.lower_assign.specs.Lowerings.{Lowering, done, ◌>>=◌, scoped, giving}
-use Rattle.lower_assign.specs.Operations.{rank_from, arranged, values_of, on_scalars, operation, binary_operation, unary_operation, joined, reduction_of, what_of, call_elem, call_on}
-use Rattle.lower_assign.specs.References.{sub_kind, sub_values, part_kind, designated}
-use Rattle.lower_assign.specs.Values.{constant_or, folded}
+use Rattle.lower_values.specs.declared.operand.Operand.{Operand}
+use Rattle.lower_values.specs.declared.operand.Subscript.{Subscript}
+use Rattle.lower_values.specs.Scopes.{Scope}
+use Rattle.lower_values.specs.Lowerings.{Lowering, done, ◌>>=◌, scoped, giving}
+use Rattle.lower_values.specs.Operations.{rank_from, arranged, values_of, on_scalars, operation, binary_operation, unary_operation, joined, reduction_of, what_of, call_elem, call_on}
+use Rattle.lower_values.specs.References.{sub_kind, sub_values, part_kind, designated}
+use Rattle.lower_values.specs.Values.{constant_or, folded}
 use Rattle.kind_laws.proofs.Made as made
 use Rattle.place_laws.proofs.Printed.{parts-op_of}
 use Rattle.place_laws.proofs.Simple.{Simple, is_simple, simple-constant, simple-in_parentheses}

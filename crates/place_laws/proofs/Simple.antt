@@ -20,13 +20,13 @@ use Rattle.hlfir_ops.specs.declared.op.ValueId.{ValueId}
 use Rattle.hlfir_ops.specs.declared.op.Op.{Op}
 use Rattle.hlfir_ops.specs.Trees.{op_of}
 use Rattle.hlfir_ops.specs.RulesValues.{is_section}
-use Rattle.lower_assign.specs.declared.names.Names.{Names}
-use Rattle.lower_assign.specs.declared.operand.Operand.{Operand}
-use Rattle.lower_assign.specs.Scopes.{Scope, index_of}
-use Rattle.lower_assign.specs.Lowerings.{Lowering, done, ◌>>=◌, scoped, giving}
-use Rattle.lower_assign.specs.Operations.{constant, value_of_whole, in_parentheses}
-use Rattle.lower_assign.specs.References.{nothing, declare_of, box_of, boxed, reference, load_of, loaded, truth_of, variable_of, variable_or_truth, index_or_other, named, bound, first_name, dimension_in, size, dimension, bound_word, bound_or_size, is_allocated, inquiry_of, inquiry_or_nothing, inquiry}
-use Rattle.lower_assign.specs.Values.{constant_or, folded}
+use Rattle.lower_values.specs.declared.names.Names.{Names}
+use Rattle.lower_values.specs.declared.operand.Operand.{Operand}
+use Rattle.lower_values.specs.Scopes.{Scope, index_of}
+use Rattle.lower_values.specs.Lowerings.{Lowering, done, ◌>>=◌, scoped, giving}
+use Rattle.lower_values.specs.Operations.{constant, value_of_whole, in_parentheses}
+use Rattle.lower_values.specs.References.{nothing, declare_of, box_of, boxed, reference, load_of, loaded, truth_of, variable_of, variable_or_truth, index_or_other, named, bound, first_name, dimension_in, size, dimension, bound_word, bound_or_size, is_allocated, inquiry_of, inquiry_or_nothing, inquiry}
+use Rattle.lower_values.specs.Values.{constant_or, folded}
 use Rattle.place_laws.proofs.Lowered.{Always, always-then, always-scoped, makes-done, makes-giving}
 
 -- sorts of ops that give no section and go over no array

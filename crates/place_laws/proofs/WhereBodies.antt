@@ -30,9 +30,9 @@ use Rattle.kind_laws.specs.Found.{RegionsHeld, ScopeIsFound}
 use Rattle.kind_laws.proofs.NoFaults.{none_first, none_after}
 use Rattle.kind_laws.proofs.TypedExpressions.{type_known}
 use Rattle.kind_laws.proofs.Ends.{ops_in-first, ops_in-second, ops_in-third}
-use Rattle.lower_assign.specs.Scopes.{Scope, inside}
-use Rattle.lower_assign.specs.Lowerings.{done, ◌>>=◌, regions_from, statement_of}
-use Rattle.lower_assign.specs.Values.{value}
+use Rattle.lower_values.specs.Scopes.{Scope, inside}
+use Rattle.lower_values.specs.Lowerings.{done, ◌>>=◌, regions_from, statement_of}
+use Rattle.lower_values.specs.Values.{value}
 use Rattle.lower_assign.specs.Statements.{yielded}
 use Rattle.lower_constructs.specs.Modules.{third, statements, elsewheres}
 use Rattle.lower_constructs.specs.Lists.{mask_of}

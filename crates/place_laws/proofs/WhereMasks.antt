@@ -17,9 +17,9 @@ use Rattle.hlfir_ops.specs.RulesStatements.{have_rank}
 use Rattle.kind_laws.specs.Standing.{Knows}
 use Rattle.kind_laws.specs.Found.{RegionsHeld, ScopeIsFound}
 use Rattle.kind_laws.specs.Laws.{HasType}
-use Rattle.lower_assign.specs.Scopes.{Scope, inside}
-use Rattle.lower_assign.specs.Lowerings.{Lowering, regions_from}
-use Rattle.lower_assign.specs.Values.{value}
+use Rattle.lower_values.specs.Scopes.{Scope, inside}
+use Rattle.lower_values.specs.Lowerings.{Lowering, regions_from}
+use Rattle.lower_values.specs.Values.{value}
 use Rattle.lower_assign.specs.Statements.{yielded}
 use Rattle.kind_laws.proofs.ScopesKnown.{inside_known}
 use Rattle.kind_laws.proofs.ScopesFound.{inside_found}

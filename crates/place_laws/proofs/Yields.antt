@@ -21,10 +21,10 @@ use Rattle.kind_laws.specs.Laws.{HasType}
 use Rattle.kind_laws.proofs.ExpressionsMade.{kinds_are_types}
 use Rattle.kind_laws.proofs.ExpressionsFound.{values_are_found}
 use Rattle.kind_laws.proofs.Sides.{sides_are_expressions, lefts_are_found}
-use Rattle.lower_assign.specs.declared.operand.Operand.{Operand}
-use Rattle.lower_assign.specs.Scopes.{Scope}
-use Rattle.lower_assign.specs.Lowerings.{Lowering, scoped, acting}
-use Rattle.lower_assign.specs.Values.{value}
+use Rattle.lower_values.specs.declared.operand.Operand.{Operand}
+use Rattle.lower_values.specs.Scopes.{Scope}
+use Rattle.lower_values.specs.Lowerings.{Lowering, scoped, acting}
+use Rattle.lower_values.specs.Values.{value}
 use Rattle.lower_assign.specs.Statements.{yielded, left}
 use Rattle.kind_laws.proofs.Held.{held-first}
 use Rattle.kind_laws.proofs.Ends.{ops_in-first, ops_in-second, parts-yielded}

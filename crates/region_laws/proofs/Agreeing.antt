@@ -12,9 +12,9 @@ use Rattle.array_meaning.specs.declared.term.Term.{Term}
 use Rattle.array_meaning.specs.declared.term.Term.TheVariants as term
 use Rattle.array_meaning.specs.Stage1 as source
 use Rattle.hlfir_meaning.specs.Environments.{Environment, of_variables}
-use Rattle.lower_assign.specs.declared.names.Names.{Names}
-use Rattle.lower_assign.specs.declared.operand.Operand.{Operand}
-use Rattle.lower_assign.specs.References.{variable_of, truth_of, or_nothing, declare_of}
+use Rattle.lower_values.specs.declared.names.Names.{Names}
+use Rattle.lower_values.specs.declared.operand.Operand.{Operand}
+use Rattle.lower_values.specs.References.{variable_of, truth_of, or_nothing, declare_of}
 use Rattle.value_laws.specs.Names.{DeclareStands, Agrees}
 use Rattle.world_laws.specs.Worlds.{constant_value, ConstantFits, FitsNames}
 use Rattle.world_laws.specs.Yields.{IsOfName}

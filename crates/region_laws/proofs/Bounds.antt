@@ -17,7 +17,7 @@ use Rattle.hlfir_ops.specs.RulesValues.{rank_of}
 use Rattle.hlfir_meaning.specs.Environments.{Value, scalar, Environment}
 use Rattle.hlfir_meaning.specs.Assign.{new_bounds}
 use Rattle.hlfir_meaning.specs.Assign as hlfir
-use Rattle.lower_assign.specs.declared.operand.Operand.{Operand}
+use Rattle.lower_values.specs.declared.operand.Operand.{Operand}
 use Rattle.value_laws.specs.Standing.{Stands}
 use Rattle.value_laws.specs.Variables.{IsNamed, IsWhole, IsWholeWhereNamed}
 

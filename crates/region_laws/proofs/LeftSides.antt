@@ -24,12 +24,12 @@ use Rattle.hlfir_ops.specs.declared.what.What.TheVariants as what
 use Rattle.hlfir_ops.specs.Numbers.{numbers_of}
 use Rattle.hlfir_meaning.specs.Environments.{Environment, of_variables}
 use Rattle.hlfir_meaning.specs.Stage1.{subscript_numbers}
-use Rattle.lower_assign.specs.declared.operand.Operand.{Operand}
-use Rattle.lower_assign.specs.Lowerings.{Lowering, done, ◌>>=◌ as ◌then◌}
-use Rattle.lower_assign.specs.References.{variable_of, reference, load_of, loaded}
-use Rattle.lower_assign.specs.Scopes.{Scope}
+use Rattle.lower_values.specs.declared.operand.Operand.{Operand}
+use Rattle.lower_values.specs.Lowerings.{Lowering, done, ◌>>=◌ as ◌then◌}
+use Rattle.lower_values.specs.References.{variable_of, reference, load_of, loaded}
+use Rattle.lower_values.specs.Scopes.{Scope}
 use Rattle.lower_assign.specs.Statements.{yielded, left_of, is_whole_allocatable}
-use Rattle.lower_assign.specs.Values.{part_of, subscripts}
+use Rattle.lower_values.specs.Values.{part_of, subscripts}
 use Rattle.value_laws.specs.Names.{Agrees}
 use Rattle.value_laws.specs.Sound.{IsSoundPart, AreSoundSubs, AreClearSubs}
 use Rattle.value_laws.proofs.ClearExpressions.{clear-subs}

@@ -5,11 +5,11 @@ use Rattle.ws_space.specs.Values.{is_among}
 use Rattle.ws_tree.specs.declared.expr.Expr.{Expr}
 use Rattle.hlfir_ops.specs.Numbers.{numbers_of}
 use Rattle.hlfir_meaning.specs.Stage1.{subscript_numbers}
-use Rattle.lower_assign.specs.declared.operand.Operand.{Operand}
-use Rattle.lower_assign.specs.Lists.{values}
-use Rattle.lower_assign.specs.Lowerings.{Lowering, done, ◌>>=◌ as ◌then◌}
-use Rattle.lower_assign.specs.Scopes.{Scope}
-use Rattle.lower_assign.specs.Values.{value}
+use Rattle.lower_values.specs.declared.operand.Operand.{Operand}
+use Rattle.lower_values.specs.Lists.{values}
+use Rattle.lower_values.specs.Lowerings.{Lowering, done, ◌>>=◌ as ◌then◌}
+use Rattle.lower_values.specs.Scopes.{Scope}
+use Rattle.lower_values.specs.Values.{value}
 use Rattle.value_laws.specs.Sound.{IsSound}
 use Rattle.value_laws.specs.Vectors.{VectorsAre}
 use Rattle.value_laws.proofs.ClearForms.{then-front, then-back}

@@ -17,11 +17,11 @@ use Rattle.hlfir_ops.specs.Numbers.{numbers_of}
 use Rattle.hlfir_ops.specs.RulesValues.{rank_of}
 use Rattle.hlfir_meaning.specs.Environments.{scalar, Environment, of_variables}
 use Rattle.hlfir_meaning.specs.Stage1.{subscript_numbers}
-use Rattle.lower_assign.specs.declared.operand.Operand.{Operand}
-use Rattle.lower_assign.specs.Lists.{values}
-use Rattle.lower_assign.specs.Lowerings.{done, ◌>>=◌ as ◌then◌}
-use Rattle.lower_assign.specs.Scopes.{Scope}
-use Rattle.lower_assign.specs.Values.{value}
+use Rattle.lower_values.specs.declared.operand.Operand.{Operand}
+use Rattle.lower_values.specs.Lists.{values}
+use Rattle.lower_values.specs.Lowerings.{done, ◌>>=◌ as ◌then◌}
+use Rattle.lower_values.specs.Scopes.{Scope}
+use Rattle.lower_values.specs.Values.{value}
 use Rattle.kind_laws.proofs.TypedExpressions.{types_are_known}
 use Rattle.kind_laws.proofs.ExpressionsMade.{kinds_are_types}
 use Rattle.value_laws.specs.Standing.{Kept, Does, IsOwn, Stands}

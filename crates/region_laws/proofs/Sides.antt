@@ -18,9 +18,9 @@ use Rattle.ws_types.specs.Operations.{is_other_number, part_faults}
 use Rattle.hlfir_ops.specs.declared.kinds.ValueKind.{ValueKind}
 use Rattle.hlfir_ops.specs.declared.kinds.ValueKind.TheVariants as kind
 use Rattle.hlfir_ops.specs.RulesValues.{rank_of}
-use Rattle.lower_assign.specs.declared.operand.Operand.{Operand}
-use Rattle.lower_assign.specs.References.{variable_of}
-use Rattle.lower_assign.specs.Scopes.{Scope, index_of}
+use Rattle.lower_values.specs.declared.operand.Operand.{Operand}
+use Rattle.lower_values.specs.References.{variable_of}
+use Rattle.lower_values.specs.Scopes.{Scope, index_of}
 use Rattle.kind_laws.specs.Standing.{Knows, EntryIsKnown, NameIsKnown}
 use Rattle.kind_laws.proofs.TypedExpressions.{types_are_known}
 use Rattle.kind_laws.proofs.ExpressionsMade.{kinds_are_types}

@@ -21,11 +21,11 @@ use Rattle.hlfir_meaning.specs.Assign.{new_bounds}
 use Rattle.hlfir_meaning.specs.Stage1.{subscript_numbers}
 use Rattle.kind_laws.proofs.TypedExpressions.{types_are_known}
 use Rattle.kind_laws.proofs.ExpressionsMade.{kinds_are_types}
-use Rattle.lower_assign.specs.declared.operand.Operand.{Operand}
-use Rattle.lower_assign.specs.References.{variable_of}
-use Rattle.lower_assign.specs.Scopes.{Scope}
+use Rattle.lower_values.specs.declared.operand.Operand.{Operand}
+use Rattle.lower_values.specs.References.{variable_of}
+use Rattle.lower_values.specs.Scopes.{Scope}
 use Rattle.lower_assign.specs.Statements.{yielded}
-use Rattle.lower_assign.specs.Values.{value}
+use Rattle.lower_values.specs.Values.{value}
 use Rattle.value_laws.specs.Standing.{Does, Stands}
 use Rattle.value_laws.specs.Names.{Agrees}
 use Rattle.value_laws.specs.Sound.{IsSound, IsClear}

@@ -2,7 +2,7 @@
 use Rattle.std.specs.Prelude.{◌≡◌, ℕ, ◌<◌, length}
 use Rattle.array_meaning.specs.declared.world.World.{World}
 use Rattle.hlfir_meaning.specs.Environments.{Environment, of_variables}
-use Rattle.lower_assign.specs.declared.names.Names.{Names}
+use Rattle.lower_values.specs.declared.names.Names.{Names}
 use Rattle.value_laws.specs.Names.{Agrees}
 use Rattle.part_laws.specs.Joined.{HasSmallRanks}
 use Rattle.world_laws.specs.Worlds.{FitsNames}

@@ -28,9 +28,9 @@ use Rattle.hlfir_meaning.specs.Environments.{OpRegion, of_variables, state_in}
 use Rattle.hlfir_meaning.specs.Stage1.{walk}
 use Rattle.hlfir_meaning.specs.Assign.{with_target}
 use Rattle.hlfir_meaning.specs.Statements.{Item, taken_by, bounds, allocate}
-use Rattle.lower_assign.specs.Scopes.{Scope, inside}
-use Rattle.lower_assign.specs.Lowerings.{scoped, statement_of, regions_from, holding}
-use Rattle.lower_assign.specs.References.{declare_of}
+use Rattle.lower_values.specs.Scopes.{Scope, inside}
+use Rattle.lower_values.specs.Lowerings.{scoped, statement_of, regions_from, holding}
+use Rattle.lower_values.specs.References.{declare_of}
 use Rattle.lower_assign.specs.Statements.{all_yielded, all_bounds, allocation}
 use Rattle.kind_laws.proofs.NoFaults.{none_first, none_after, not_broken}
 use Rattle.world_laws.specs.Worlds.{FitsNames}

@@ -8,11 +8,11 @@ use Rattle.ws_tree.specs.declared.stmt.Bound.TheVariants as bound
 use Rattle.hlfir_ops.specs.declared.op.ValueId.{ValueId}
 use Rattle.hlfir_ops.specs.Numbers.{numbers_of}
 use Rattle.hlfir_ops.proofs.Numbered.{numbers_of-append}
-use Rattle.lower_assign.specs.declared.operand.Operand.{Operand}
-use Rattle.lower_assign.specs.Scopes.{Scope}
-use Rattle.lower_assign.specs.Lowerings.{Lowered, done, ◌>>=◌}
-use Rattle.lower_assign.specs.Values.{value}
-use Rattle.lower_assign.specs.Lists.{values}
+use Rattle.lower_values.specs.declared.operand.Operand.{Operand}
+use Rattle.lower_values.specs.Scopes.{Scope}
+use Rattle.lower_values.specs.Lowerings.{Lowered, done, ◌>>=◌}
+use Rattle.lower_values.specs.Values.{value}
+use Rattle.lower_values.specs.Lists.{values}
 use Rattle.lower_assign.specs.Statements.{bounds_of, all_bounds}
 use Rattle.world_laws.proofs.Listing.{number_of, joined, values-cons, IsList, numbers}
 

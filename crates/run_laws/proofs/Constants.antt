@@ -16,9 +16,9 @@ use Rattle.array_meaning.specs.declared.world.Constant.{Constant}
 use Rattle.array_meaning.specs.Stage1.{constant_of}
 use Rattle.array_meaning.specs.Assign.{is_name_in}
 use Rattle.array_meaning.specs.Program.{declaring, declared, constant_value, names_where}
-use Rattle.lower_assign.specs.declared.names.NamedTruth.{NamedTruth}
+use Rattle.lower_values.specs.declared.names.NamedTruth.{NamedTruth}
 use Rattle.lower_assign.specs.Known.{truth_rows, truths_of, variable, declares_variable, if_variable, variable_decls, numbered}
-use Rattle.lower_assign.specs.References.{variable_of, truth_of}
+use Rattle.lower_values.specs.References.{variable_of, truth_of}
 use Rattle.kind_laws.proofs.ConstantsKnown.{not_later, declared_more, new_name}
 use Rattle.small_laws.proofs.NoFaults.{none_first, none_after, impossible, left_false, right_false}
 use Rattle.small_laws.proofs.Constancy.{Agree}

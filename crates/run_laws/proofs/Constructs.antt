@@ -36,10 +36,10 @@ use Rattle.hlfir_ops.specs.RulesStatements.{is_also}
 use Rattle.hlfir_meaning.specs.Environments.{of_variables, operand, variable_in}
 use Rattle.hlfir_meaning.specs.Statements as lowered
 use Rattle.hlfir_meaning.specs.Statements.{statement_list, simple, changed, loop_triplet}
-use Rattle.lower_assign.specs.Scopes.{Scope, inside}
-use Rattle.lower_assign.specs.Lowerings.{Lowering, ◌>>◌ as ◌before◌, scoped, statement_of, regions_from}
-use Rattle.lower_assign.specs.References.{declare_of}
-use Rattle.lower_assign.specs.Values.{value}
+use Rattle.lower_values.specs.Scopes.{Scope, inside}
+use Rattle.lower_values.specs.Lowerings.{Lowering, ◌>>◌ as ◌before◌, scoped, statement_of, regions_from}
+use Rattle.lower_values.specs.References.{declare_of}
+use Rattle.lower_values.specs.Values.{value}
 use Rattle.lower_assign.specs.Statements.{yielded, all_yielded, left as left_side, is_whole_allocatable, assignment}
 use Rattle.lower_constructs.specs.Modules.{triple, triples, forall_mask, third, statement, statements, elsewheres}
 use Rattle.kind_laws.proofs.ScopesKnown.{loop_known}

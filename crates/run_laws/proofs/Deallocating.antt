@@ -19,9 +19,9 @@ use Rattle.hlfir_ops.specs.Numbers.{op_numbers}
 use Rattle.hlfir_ops.specs.RulesStatements.{is_also}
 use Rattle.hlfir_meaning.specs.Assign.{with_target}
 use Rattle.hlfir_meaning.specs.Statements.{Item, taken_by, deallocate}
-use Rattle.lower_assign.specs.Scopes.{Scope}
-use Rattle.lower_assign.specs.Lowerings.{scoped, statement_of, holding}
-use Rattle.lower_assign.specs.References.{declare_of}
+use Rattle.lower_values.specs.Scopes.{Scope}
+use Rattle.lower_values.specs.Lowerings.{scoped, statement_of, holding}
+use Rattle.lower_values.specs.References.{declare_of}
 use Rattle.lower_assign.specs.Statements.{deallocation}
 use Rattle.kind_laws.proofs.NoFaults.{none_first, none_after}
 use Rattle.world_laws.specs.Worlds.{FitsNames}

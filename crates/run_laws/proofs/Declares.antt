@@ -24,7 +24,7 @@ use Rattle.array_meaning.specs.Program.{constants_alone, staged_or, declaring, d
 use Rattle.hlfir_ops.specs.declared.kinds.Elem.{Elem}
 use Rattle.hlfir_ops.specs.RulesValues.{elem_of, rank_of}
 use Rattle.hlfir_meaning.specs.Meaning.{is_truth, first_state}
-use Rattle.lower_assign.specs.declared.names.Variable.{Variable}
+use Rattle.lower_values.specs.declared.names.Variable.{Variable}
 use Rattle.lower_assign.specs.Known.{elem, value_or_zero, bound_dim, declared_shape, variable_kind, kind_of, variable, declares_variable, if_variable, variable_decls, numbered}
 use Rattle.kind_laws.proofs.ConstantsKnown.{value_after, new_name}
 use Rattle.small_laws.proofs.NoFaults.{none_first, none_after, not_broken, left_false, impossible}

@@ -16,9 +16,9 @@ use Rattle.hlfir_ops.specs.Numbers.{op_numbers, numbers_of}
 use Rattle.hlfir_ops.proofs.Numbered.{op_numbers-op_of}
 use Rattle.hlfir_meaning.specs.Statements as lowered
 use Rattle.hlfir_meaning.specs.Meaning.{declared, declared_in}
-use Rattle.lower_assign.specs.declared.names.Variable.{Variable}
-use Rattle.lower_assign.specs.Scopes.{Scope}
-use Rattle.lower_assign.specs.Lowerings.{Lowering, done, ◌>>=◌, scoped, in_turn, giving, statement_of, regions_from}
+use Rattle.lower_values.specs.declared.names.Variable.{Variable}
+use Rattle.lower_values.specs.Scopes.{Scope}
+use Rattle.lower_values.specs.Lowerings.{Lowering, done, ◌>>=◌, scoped, in_turn, giving, statement_of, regions_from}
 use Rattle.lower_assign.specs.Statements.{assignment, allocation, deallocation, reading}
 use Rattle.lower_constructs.specs.Modules.{statement, statement_list, declaration}
 use Rattle.run_laws.proofs.Parts.{statement-declare}

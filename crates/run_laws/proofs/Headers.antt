@@ -29,7 +29,7 @@ use Rattle.hlfir_ops.specs.declared.op.Op.{Op}
 use Rattle.hlfir_meaning.specs.Environments.{scalar, scalar_in, Environment, of_variables}
 use Rattle.hlfir_meaning.specs.Stage1.{walk}
 use Rattle.hlfir_meaning.specs.Statements.{bounds, loop_steps, loop_triplet}
-use Rattle.lower_assign.specs.Scopes.{Scope}
+use Rattle.lower_values.specs.Scopes.{Scope}
 use Rattle.lower_assign.specs.Statements.{all_yielded, all_bounds}
 use Rattle.lower_constructs.specs.Modules.{triple}
 use Rattle.kind_laws.proofs.NoFaults.{none_first, none_after, impossible}

@@ -8,8 +8,8 @@ use Rattle.hlfir_ops.specs.declared.op.Op.{Op, out-Op}
 use Rattle.hlfir_ops.specs.Numbers.{op_numbers, numbers_of}
 use Rattle.hlfir_ops.specs.RulesStatements.{is_also}
 use Rattle.hlfir_meaning.specs.Statements.{Item, statement, statement_list, continued_in}
-use Rattle.lower_assign.specs.Scopes.{Scope}
-use Rattle.lower_assign.specs.Lowerings.{Lowering, done, ◌>>=◌, in_turn}
+use Rattle.lower_values.specs.Scopes.{Scope}
+use Rattle.lower_values.specs.Lowerings.{Lowering, done, ◌>>=◌, in_turn}
 use Rattle.run_laws.proofs.InOrder.{and_then-done}
 use Rattle.run_laws.proofs.Appended.{StartsAnew}
 

@@ -15,10 +15,10 @@ use Rattle.ws_sema.specs.Statements.{is_other_bounds, allocatable_faults, variab
 use Rattle.hlfir_ops.specs.declared.kinds.Elem.{Elem}
 use Rattle.hlfir_ops.specs.declared.kinds.ValueKind.{ValueKind}
 use Rattle.hlfir_ops.specs.declared.kinds.ValueKind.TheVariants as kinds
-use Rattle.lower_assign.specs.declared.names.Names.{Names}
-use Rattle.lower_assign.specs.declared.operand.Operand.{Operand}
-use Rattle.lower_assign.specs.References.{variable_of, or_nothing}
-use Rattle.lower_assign.specs.Scopes.{Scope}
+use Rattle.lower_values.specs.declared.names.Names.{Names}
+use Rattle.lower_values.specs.declared.operand.Operand.{Operand}
+use Rattle.lower_values.specs.References.{variable_of, or_nothing}
+use Rattle.lower_values.specs.Scopes.{Scope}
 use Rattle.kind_laws.specs.Standing.{FitsEntry, EntryIsKnown, NameIsKnown, Knows}
 use Rattle.kind_laws.proofs.NoFaults.{none_first, none_after, not_broken, not_false, impossible}
 use Rattle.kind_laws.proofs.ScopesKnown.{entry_variable}

@@ -10,7 +10,7 @@ use Rattle.array_meaning.specs.declared.world.World.{World}
 use Rattle.array_meaning.specs.declared.world.Source.{Source}
 use Rattle.array_meaning.specs.Program as source
 use Rattle.array_meaning.specs.Program.{world}
-use Rattle.lower_assign.specs.declared.names.Names.{Names}
+use Rattle.lower_values.specs.declared.names.Names.{Names}
 use Rattle.world_laws.specs.Worlds.{FitDeclares, FitsNames}
 use Rattle.world_laws.specs.Meanings.{LeavesWorld}
 use Rattle.run_laws.proofs.InOrder.{EndsIn}

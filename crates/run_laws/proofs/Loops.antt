@@ -13,7 +13,7 @@ use Rattle.ws_space.specs.Subscripts.{stepped}
 use Rattle.ws_space.specs.Runs.{Run, run_of, and_then, region_run, entered, ticked, most_steps, assigned_scalar, iterations, iteration, looped, loop_of}
 use Rattle.array_meaning.specs.declared.world.Source.{Source}
 use Rattle.array_meaning.specs.Program.{world}
-use Rattle.lower_assign.specs.declared.names.Names.{Names}
+use Rattle.lower_values.specs.declared.names.Names.{Names}
 use Rattle.world_laws.specs.Worlds.{FitsNames}
 use Rattle.run_laws.proofs.InOrder.{EndsIn, Same, same-then, same-after}
 

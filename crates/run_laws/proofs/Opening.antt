@@ -17,11 +17,11 @@ use Rattle.array_meaning.specs.Program.{world, declared, source_of, opening}
 use Rattle.hlfir_ops.specs.declared.kinds.ValueKind.{ValueKind}
 use Rattle.hlfir_ops.specs.declared.kinds.ValueKind.TheVariants as kind
 use Rattle.hlfir_ops.specs.RulesValues.{is_allocatable}
-use Rattle.lower_assign.specs.declared.names.Names.{Names}
-use Rattle.lower_assign.specs.declared.operand.Operand.{Operand}
+use Rattle.lower_values.specs.declared.names.Names.{Names}
+use Rattle.lower_values.specs.declared.operand.Operand.{Operand}
 use Rattle.lower_assign.specs.Known.{names_of, truths_of}
-use Rattle.lower_assign.specs.References.{variable_of, or_nothing, declare_of, truth_of}
-use Rattle.lower_assign.specs.Scopes.{Scope, scope_at}
+use Rattle.lower_values.specs.References.{variable_of, or_nothing, declare_of, truth_of}
+use Rattle.lower_values.specs.Scopes.{Scope, scope_at}
 use Rattle.kind_laws.specs.Standing.{FitsEntry, ConstantIsKnown, EntryIsKnown, NameIsKnown}
 use Rattle.kind_laws.proofs.NamesKnown.{names_are_known}
 use Rattle.ws_sema.proofs.Accepted.{no_decl_faults}

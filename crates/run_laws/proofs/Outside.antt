@@ -5,7 +5,7 @@ use Rattle.array_meaning.specs.declared.world.World.{World}
 use Rattle.hlfir_ops.specs.declared.what.What.{What}
 use Rattle.hlfir_ops.specs.Built.{is_where}
 use Rattle.hlfir_ops.specs.Numbers.{names_in}
-use Rattle.lower_assign.specs.Scopes.{Scope, inside, with_indexes}
+use Rattle.lower_values.specs.Scopes.{Scope, inside, with_indexes}
 use Rattle.kind_laws.specs.Standing.{Knows}
 use Rattle.kind_laws.proofs.ScopesKnown.{inside_known}
 use Rattle.small_laws.proofs.Tables.{AreFit}

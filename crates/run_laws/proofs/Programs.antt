@@ -13,9 +13,9 @@ use Rattle.hlfir_ops.specs.declared.op.Op.{Op}
 use Rattle.hlfir_ops.specs.Numbers.{numbers_of}
 use Rattle.hlfir_meaning.specs.Statements.{statement_list}
 use Rattle.hlfir_meaning.specs.Meaning.{opening, meaning}
-use Rattle.lower_assign.specs.declared.names.Variable.{Variable}
-use Rattle.lower_assign.specs.Scopes.{Scope, scope_at}
-use Rattle.lower_assign.specs.Lowerings.{◌>>=◌, in_turn}
+use Rattle.lower_values.specs.declared.names.Variable.{Variable}
+use Rattle.lower_values.specs.Scopes.{Scope, scope_at}
+use Rattle.lower_values.specs.Lowerings.{◌>>=◌, in_turn}
 use Rattle.lower_assign.specs.Known.{names_of}
 use Rattle.lower_constructs.specs.Modules as module'
 use Rattle.lower_constructs.specs.Modules.{declaration, lowered}

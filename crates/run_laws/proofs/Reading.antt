@@ -27,9 +27,9 @@ use Rattle.hlfir_meaning.specs.Environments.{of_variables, Yielded, result, vari
 use Rattle.hlfir_meaning.specs.Stage1.{walk}
 use Rattle.hlfir_meaning.specs.Assign.{Target, target}
 use Rattle.hlfir_meaning.specs.Statements.{Item, target_extents, read_into, read_item, read_items}
-use Rattle.lower_assign.specs.declared.names.Names.{Names}
-use Rattle.lower_assign.specs.Scopes.{Scope, inside}
-use Rattle.lower_assign.specs.Lowerings.{statement_of, regions_from, holding}
+use Rattle.lower_values.specs.declared.names.Names.{Names}
+use Rattle.lower_values.specs.Scopes.{Scope, inside}
+use Rattle.lower_values.specs.Lowerings.{statement_of, regions_from, holding}
 use Rattle.lower_assign.specs.Statements.{yielded, left_of, reading}
 use Rattle.kind_laws.proofs.NoFaults.{none_first, none_after}
 use Rattle.world_laws.specs.Worlds.{FitsNames}

@@ -15,11 +15,11 @@ use Rattle.hlfir_meaning.specs.Assign.{with_target}
 use Rattle.hlfir_meaning.specs.Statements.{Item, taken_by}
 use Rattle.hlfir_meaning.specs.Steps.{first_region}
 use Rattle.array_meaning.specs.declared.world.World.{World}
-use Rattle.lower_assign.specs.declared.names.Names.{Names}
-use Rattle.lower_assign.specs.declared.operand.Operand.{Operand}
-use Rattle.lower_assign.specs.Scopes.{Scope, inside}
-use Rattle.lower_assign.specs.Lowerings.{Lowering, regions_from, holding}
-use Rattle.lower_assign.specs.References.{variable_of, declare_of, or_nothing}
+use Rattle.lower_values.specs.declared.names.Names.{Names}
+use Rattle.lower_values.specs.declared.operand.Operand.{Operand}
+use Rattle.lower_values.specs.Scopes.{Scope, inside}
+use Rattle.lower_values.specs.Lowerings.{Lowering, regions_from, holding}
+use Rattle.lower_values.specs.References.{variable_of, declare_of, or_nothing}
 use Rattle.value_laws.proofs.Ops.{ops_in-first}
 use Rattle.world_laws.specs.Worlds.{FitsNames}
 use Rattle.world_laws.specs.Yields.{region}

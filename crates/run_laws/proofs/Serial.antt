@@ -22,9 +22,9 @@ use Rattle.array_meaning.specs.Program.{world, with_vars_of}
 use Rattle.hlfir_ops.specs.declared.what.What.TheVariants as what
 use Rattle.hlfir_ops.specs.Numbers.{op_numbers}
 use Rattle.hlfir_meaning.specs.Statements.{Item, statement_list}
-use Rattle.lower_assign.specs.Scopes.{Scope}
-use Rattle.lower_assign.specs.Lowerings.{Lowering, regions_from}
-use Rattle.lower_assign.specs.References.{declare_of}
+use Rattle.lower_values.specs.Scopes.{Scope}
+use Rattle.lower_values.specs.Lowerings.{Lowering, regions_from}
+use Rattle.lower_values.specs.References.{declare_of}
 use Rattle.lower_assign.specs.Statements.{all_yielded, all_bounds, yielded, left_of, allocation, deallocation, reading}
 use Rattle.lower_constructs.specs.Modules.{statement}
 use Rattle.world_laws.specs.Meanings.{ListsMean, LeftsMean}

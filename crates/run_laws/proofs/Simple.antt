@@ -19,9 +19,9 @@ use Rattle.hlfir_ops.specs.declared.op.Region.{Region}
 use Rattle.hlfir_ops.specs.Trees.{op_of}
 use Rattle.hlfir_ops.specs.Numbers.{op_numbers, numbers_of}
 use Rattle.hlfir_meaning.specs.Statements.{simple, simple_block}
-use Rattle.lower_assign.specs.declared.names.Names.{Names}
-use Rattle.lower_assign.specs.Scopes.{Scope}
-use Rattle.lower_assign.specs.Lowerings.{done, ◌>>=◌ as ◌then◌}
+use Rattle.lower_values.specs.declared.names.Names.{Names}
+use Rattle.lower_values.specs.Scopes.{Scope}
+use Rattle.lower_values.specs.Lowerings.{done, ◌>>=◌ as ◌then◌}
 use Rattle.lower_constructs.specs.Modules.{statement, statements}
 use Rattle.kind_laws.proofs.NoFaults.{none_first, none_after, impossible}
 use Rattle.world_laws.specs.Worlds.{FitsNames}

@@ -22,8 +22,8 @@ use Rattle.array_meaning.specs.declared.world.Source.{Source}
 use Rattle.array_meaning.specs.Program as program
 use Rattle.hlfir_ops.specs.Numbers.{numbers_of}
 use Rattle.hlfir_meaning.specs.Statements as lowered
-use Rattle.lower_assign.specs.Scopes.{Scope}
-use Rattle.lower_assign.specs.Lowerings.{Lowering, done, ◌>>=◌ as ◌then◌}
+use Rattle.lower_values.specs.Scopes.{Scope}
+use Rattle.lower_values.specs.Lowerings.{Lowering, done, ◌>>=◌ as ◌then◌}
 use Rattle.lower_constructs.specs.Modules.{statement, statements, statement_list}
 use Rattle.small_laws.proofs.NoFaults.{none_first, none_after, impossible}
 use Rattle.kind_laws.proofs.Grammar.{loop_parts, shared_parts}

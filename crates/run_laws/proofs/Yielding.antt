@@ -11,10 +11,10 @@ use Rattle.hlfir_ops.specs.declared.op.Op.{Op}
 use Rattle.hlfir_ops.specs.Numbers.{numbers_of}
 use Rattle.hlfir_meaning.specs.Environments.{scalar, Environment, of_variables, Yielded, yielding}
 use Rattle.hlfir_meaning.specs.Stage1.{subscript_numbers, once, walk}
-use Rattle.lower_assign.specs.declared.operand.Operand.{Operand}
-use Rattle.lower_assign.specs.Scopes.{Scope}
-use Rattle.lower_assign.specs.Lowerings.{Lowering}
-use Rattle.lower_assign.specs.Lists.{values}
+use Rattle.lower_values.specs.declared.operand.Operand.{Operand}
+use Rattle.lower_values.specs.Scopes.{Scope}
+use Rattle.lower_values.specs.Lowerings.{Lowering}
+use Rattle.lower_values.specs.Lists.{values}
 use Rattle.lower_assign.specs.Statements.{all_yielded}
 use Rattle.value_laws.specs.Standing.{Goes}
 use Rattle.value_laws.proofs.Ops.{ending}

@@ -6,10 +6,10 @@ use Rattle.ws_tree.specs.declared.stmt.Tree.{Tree}
 use Rattle.ws_sema.specs.Checks.{IsAccepted}
 use Rattle.array_meaning.specs.declared.world.World.{World}
 use Rattle.array_meaning.specs.Program.{world, with_name, source_of, opening}
-use Rattle.lower_assign.specs.declared.names.Names.{Names}
-use Rattle.lower_assign.specs.declared.operand.Operand.{Operand}
+use Rattle.lower_values.specs.declared.names.Names.{Names}
+use Rattle.lower_values.specs.declared.operand.Operand.{Operand}
 use Rattle.lower_assign.specs.Known.{names_of}
-use Rattle.lower_assign.specs.References.{variable_of}
+use Rattle.lower_values.specs.References.{variable_of}
 use Rattle.value_laws.specs.Variables.{Fits}
 use Rattle.world_laws.specs.Worlds.{FitsNames}
 use Rattle.world_laws.specs.Meanings.{ListsMean, LeftsMean, SimplesMean, ProgramsMean}

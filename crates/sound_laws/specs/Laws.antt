@@ -4,7 +4,7 @@ use Rattle.ws_tree.specs.declared.expr.Expr.{Expr}
 use Rattle.ws_tree.specs.Grammatical.{IsExpr}
 use Rattle.ws_types.specs.declared.types.Row.{Row}
 use Rattle.ws_types.specs.Expressions.{faults}
-use Rattle.lower_assign.specs.Scopes.{Scope}
+use Rattle.lower_values.specs.Scopes.{Scope}
 use Rattle.kind_laws.specs.Standing.{Knows}
 use Rattle.value_laws.specs.Sound.{IsSound}
 

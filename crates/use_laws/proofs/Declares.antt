@@ -21,9 +21,9 @@ use Rattle.hlfir_ops.specs.RulesValues.{is_expression}
 use Rattle.hlfir_ops.specs.RulesPlaces.{from_number, own_defined}
 use Rattle.hlfir_ops.proofs.Numbered.{op_numbers-op_of}
 use Rattle.kind_laws.proofs.Sited.{defined_by}
-use Rattle.lower_assign.specs.declared.names.Variable.{Variable}
+use Rattle.lower_values.specs.declared.names.Variable.{Variable}
 use Rattle.lower_assign.specs.Known.{declared_kind, variable_kind, declares_variable, if_variable, variable_decls, numbered}
-use Rattle.lower_assign.specs.Lowerings.{done, ◌>>=◌, giving}
+use Rattle.lower_values.specs.Lowerings.{done, ◌>>=◌, giving}
 use Rattle.lower_constructs.specs.Modules.{declaration}
 use Rattle.use_laws.proofs.Counting.{hit, hit-other, IsArrayAt}
 use Rattle.use_laws.proofs.Defined.{In}

@@ -11,8 +11,8 @@ use Rattle.hlfir_ops.specs.declared.op.Op.{Op}
 use Rattle.hlfir_ops.specs.Trees.{op_of}
 use Rattle.hlfir_ops.specs.Numbers.{names_in, numbers_of, kinds_of, kinds_in, kind_of_name}
 use Rattle.hlfir_ops.specs.RulesPlaces.{from_number}
-use Rattle.lower_assign.specs.Scopes.{Scope, inside}
-use Rattle.lower_assign.specs.Lowerings.{Lowering, regions_from, statement_of, giving_by}
+use Rattle.lower_values.specs.Scopes.{Scope, inside}
+use Rattle.lower_values.specs.Lowerings.{Lowering, regions_from, statement_of, giving_by}
 use Rattle.use_laws.proofs.Counting.{hits, IsArrayAt, array-first, array-rest, names_missed}
 use Rattle.use_laws.proofs.Defined.{AllIn, numbers, Grows, grows-more}
 use Rattle.use_laws.proofs.Standing.{Stands, stands-inside}

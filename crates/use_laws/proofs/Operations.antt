@@ -16,10 +16,10 @@ use Rattle.hlfir_ops.specs.declared.what.What.TheVariants as what
 use Rattle.hlfir_ops.specs.declared.op.ValueId.{ValueId}
 use Rattle.hlfir_ops.specs.RulesValues.{elem_of, rank_of}
 use Rattle.hlfir_ops.specs.RulesForms.{result_elem, total_elem}
-use Rattle.lower_assign.specs.declared.operand.Operand.{Operand}
-use Rattle.lower_assign.specs.Scopes.{Scope}
-use Rattle.lower_assign.specs.Lowerings.{Lowering, done, ◌>>=◌, giving, acting}
-use Rattle.lower_assign.specs.Operations.{constant, values_of, rank_from, arranged, on_scalars, at_position, at_positions, element, at_each, operation, binary_operation, value_of_whole, in_parentheses, unary_operation, reduction_of, what_of, first_elem, call_elem, total_or, call_on, vector}
+use Rattle.lower_values.specs.declared.operand.Operand.{Operand}
+use Rattle.lower_values.specs.Scopes.{Scope}
+use Rattle.lower_values.specs.Lowerings.{Lowering, done, ◌>>=◌, giving, acting}
+use Rattle.lower_values.specs.Operations.{constant, values_of, rank_from, arranged, on_scalars, at_position, at_positions, element, at_each, operation, binary_operation, value_of_whole, in_parentheses, unary_operation, reduction_of, what_of, first_elem, call_elem, total_or, call_on, vector}
 use Rattle.use_laws.proofs.Counting.{hits}
 use Rattle.use_laws.proofs.Defined.{In, AllIn, numbers, all-grown}
 use Rattle.use_laws.proofs.Walking.{Lowers, of_operand, nothing_held, lowers-done, lowers-then, lowers-if, lowers-giving, lowers-acting}

@@ -18,8 +18,8 @@ use Rattle.hlfir_ops.specs.Numbers.{numbers_of, kinds_of}
 use Rattle.hlfir_ops.proofs.NumberedKinds.{kinds_of-append}
 use Rattle.kind_laws.proofs.Sited.{defined_by}
 use Rattle.lower_assign.specs.Known.{numbered, variable_decls, names_of}
-use Rattle.lower_assign.specs.Scopes.{Scope, scope_at}
-use Rattle.lower_assign.specs.Lowerings.{◌>>=◌}
+use Rattle.lower_values.specs.Scopes.{Scope, scope_at}
+use Rattle.lower_values.specs.Lowerings.{◌>>=◌}
 use Rattle.lower_constructs.specs.Modules.{declaration, statement_list, lowered}
 use Rattle.use_laws.proofs.Counting.{IsArrayAt, array-first, array-rest}
 use Rattle.use_laws.proofs.Standing.{HasNoVariables, IsFree, IsFreeVariable, Stands}

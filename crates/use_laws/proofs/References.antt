@@ -20,11 +20,11 @@ use Rattle.hlfir_ops.specs.Trees.{op_of}
 use Rattle.hlfir_ops.specs.RulesValues.{elem_of}
 use Rattle.hlfir_ops.specs.RulesForms.{section_rank}
 use Rattle.kind_laws.proofs.Sited.{defined_by}
-use Rattle.lower_assign.specs.declared.operand.Operand.{Operand}
-use Rattle.lower_assign.specs.declared.operand.Subscript.{Subscript}
-use Rattle.lower_assign.specs.Scopes.{Scope, index_of}
-use Rattle.lower_assign.specs.Lowerings.{Lowering, done, ◌>>=◌, scoped, giving}
-use Rattle.lower_assign.specs.References.{nothing, variable_of, declare_of, box_of, boxed, reference, load_of, loaded, truth_of, variable_or_truth, index_or_other, named, sub_kind, sub_values, bound, part_kind, designated, first_name, dimension_in, dimension, bound_word, bound_or_size, is_allocated, inquiry_or_nothing, inquiry}
+use Rattle.lower_values.specs.declared.operand.Operand.{Operand}
+use Rattle.lower_values.specs.declared.operand.Subscript.{Subscript}
+use Rattle.lower_values.specs.Scopes.{Scope, index_of}
+use Rattle.lower_values.specs.Lowerings.{Lowering, done, ◌>>=◌, scoped, giving}
+use Rattle.lower_values.specs.References.{nothing, variable_of, declare_of, box_of, boxed, reference, load_of, loaded, truth_of, variable_or_truth, index_or_other, named, sub_kind, sub_values, bound, part_kind, designated, first_name, dimension_in, dimension, bound_word, bound_or_size, is_allocated, inquiry_or_nothing, inquiry}
 use Rattle.use_laws.proofs.Counting.{hits, hit-other}
 use Rattle.use_laws.proofs.Defined.{In, AllIn, numbers, Grows, grows-more}
 use Rattle.use_laws.proofs.Standing.{HasNoVariables, IsFree, Stands, free-grown, found-free, declare-free, index-free, zero-free}

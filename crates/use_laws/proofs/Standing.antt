@@ -13,10 +13,10 @@ use Rattle.hlfir_ops.specs.declared.what.What.{What}
 use Rattle.hlfir_ops.specs.declared.op.ValueId.{ValueId}
 use Rattle.hlfir_ops.specs.Numbers.{names_in, kind_of_name}
 use Rattle.hlfir_ops.specs.RulesPlaces.{from_number}
-use Rattle.lower_assign.specs.declared.names.Variable.{Variable}
-use Rattle.lower_assign.specs.declared.operand.Operand.{Operand}
-use Rattle.lower_assign.specs.Scopes.{Scope, Indexed, index_of, with_indexes, inside}
-use Rattle.lower_assign.specs.References.{variable_of, or_nothing, declare_of}
+use Rattle.lower_values.specs.declared.names.Variable.{Variable}
+use Rattle.lower_values.specs.declared.operand.Operand.{Operand}
+use Rattle.lower_values.specs.Scopes.{Scope, Indexed, index_of, with_indexes, inside}
+use Rattle.lower_values.specs.References.{variable_of, or_nothing, declare_of}
 use Rattle.use_laws.proofs.Counting.{IsArrayAt}
 use Rattle.use_laws.proofs.Defined.{In, in-after, Grows, grows-more}
 

@@ -21,12 +21,12 @@ use Rattle.ws_sema.specs.Statements.{is_inside, is_masked, left_faults, item_fau
 use Rattle.hlfir_ops.specs.declared.kinds.Elem.TheVariants.{I32}
 use Rattle.hlfir_ops.specs.declared.what.What.TheVariants as what
 use Rattle.hlfir_ops.specs.declared.op.ValueId.{ValueId}
-use Rattle.lower_assign.specs.declared.operand.Operand.{Operand}
-use Rattle.lower_assign.specs.Scopes.{Scope}
-use Rattle.lower_assign.specs.Lowerings.{Lowering, done, ◌>>=◌, ◌>>◌, in_turn, acting, statement_of}
-use Rattle.lower_assign.specs.Operations.{constant}
-use Rattle.lower_assign.specs.References.{nothing, declare_of}
-use Rattle.lower_assign.specs.Values.{value, subscripts}
+use Rattle.lower_values.specs.declared.operand.Operand.{Operand}
+use Rattle.lower_values.specs.Scopes.{Scope}
+use Rattle.lower_values.specs.Lowerings.{Lowering, done, ◌>>=◌, ◌>>◌, in_turn, acting, statement_of}
+use Rattle.lower_values.specs.Operations.{constant}
+use Rattle.lower_values.specs.References.{nothing, declare_of}
+use Rattle.lower_values.specs.Values.{value, subscripts}
 use Rattle.lower_assign.specs.Statements.{yielded, all_yielded, whole_left, left_of, left, item, is_whole_allocatable, assignment, bounds_of, all_bounds, allocation, deallocation, reading, plain}
 use Rattle.use_laws.proofs.Counting.{hits, hits-append, hit-other}
 use Rattle.use_laws.proofs.Defined.{AllIn, numbers, all-both, all-grown}

@@ -25,14 +25,14 @@ use Rattle.hlfir_ops.specs.declared.what.BoundWord.TheVariants.{Lower, Upper}
 use Rattle.hlfir_ops.specs.declared.what.ValueBinary.{ValueBinary}
 use Rattle.hlfir_ops.specs.declared.op.ValueId.{ValueId}
 use Rattle.hlfir_ops.specs.RulesValues.{rank_of}
-use Rattle.lower_assign.specs.declared.operand.Operand.{Operand}
-use Rattle.lower_assign.specs.declared.operand.Subscript.{Subscript}
-use Rattle.lower_assign.specs.declared.operand.Subscript.TheVariants.{One, Range, Vector}
-use Rattle.lower_assign.specs.Scopes.{Scope}
-use Rattle.lower_assign.specs.Lowerings.{Lowering, done, ◌>>=◌}
-use Rattle.lower_assign.specs.Operations.{constant, binary_of, binary_operation, in_parentheses, unary_operation, nesting_of, joined, call_on, vector}
-use Rattle.lower_assign.specs.References.{nothing, loaded, named, subscript_of, sub_values, bound, designated, inquiry}
-use Rattle.lower_assign.specs.Values.{constant_or, folded, call_by, called, part_of, value, values, nested, subscripts, subscript, given_or}
+use Rattle.lower_values.specs.declared.operand.Operand.{Operand}
+use Rattle.lower_values.specs.declared.operand.Subscript.{Subscript}
+use Rattle.lower_values.specs.declared.operand.Subscript.TheVariants.{One, Range, Vector}
+use Rattle.lower_values.specs.Scopes.{Scope}
+use Rattle.lower_values.specs.Lowerings.{Lowering, done, ◌>>=◌}
+use Rattle.lower_values.specs.Operations.{constant, binary_of, binary_operation, in_parentheses, unary_operation, nesting_of, joined, call_on, vector}
+use Rattle.lower_values.specs.References.{nothing, loaded, named, subscript_of, sub_values, bound, designated, inquiry}
+use Rattle.lower_values.specs.Values.{constant_or, folded, call_by, called, part_of, value, values, nested, subscripts, subscript, given_or}
 use Rattle.use_laws.proofs.Counting.{hits, hit-other, hits-append}
 use Rattle.use_laws.proofs.Defined.{In, AllIn, numbers, all-both, Grows, grows-then, all-grown}
 use Rattle.use_laws.proofs.Standing.{HasNoVariables, IsFree, Stands, stands-grown, free-grown, zero-free}

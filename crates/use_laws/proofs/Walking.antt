@@ -11,9 +11,9 @@ use Rattle.hlfir_ops.specs.Numbers.{own_kinds, numbers_of, kinds_of, kinds_in}
 use Rattle.hlfir_ops.specs.RulesPlaces.{own_defined}
 use Rattle.hlfir_ops.proofs.NumberedKinds.{kinds_of-append}
 use Rattle.kind_laws.proofs.Sited.{defined_by, defined_by-append}
-use Rattle.lower_assign.specs.declared.operand.Operand.{Operand}
-use Rattle.lower_assign.specs.Scopes.{Scope}
-use Rattle.lower_assign.specs.Lowerings.{Lowering, done, ◌>>=◌, scoped, giving, acting}
+use Rattle.lower_values.specs.declared.operand.Operand.{Operand}
+use Rattle.lower_values.specs.Scopes.{Scope}
+use Rattle.lower_values.specs.Lowerings.{Lowering, done, ◌>>=◌, scoped, giving, acting}
 use Rattle.use_laws.proofs.Counting.{hits, IsArrayAt, array-first, array-rest}
 use Rattle.use_laws.proofs.Defined.{in-after, AllIn, numbers, Grows, grows-more, all-grown}
 use Rattle.use_laws.proofs.Uses.{Uses, kinds_of-length, uses-none, uses-append, Inner, inner-none, uses-op, op_kinds-is}

@@ -16,10 +16,10 @@ use Rattle.hlfir_meaning.specs.Environments.{Value, column, Environment, with_va
 use Rattle.hlfir_meaning.specs.Order.{ends}
 use Rattle.hlfir_meaning.specs.Places.{column_at, columns_of, as_column, over, over_ops}
 use Rattle.hlfir_meaning.specs.Stage2 as stage2
-use Rattle.lower_assign.specs.declared.operand.Operand.{Operand}
-use Rattle.lower_assign.specs.Scopes.{Scope}
-use Rattle.lower_assign.specs.Lowerings.{Lowering, Lowered, done, ◌>>=◌ as ◌then◌, giving, acting}
-use Rattle.lower_assign.specs.Operations.{values_of, arranged, on_scalars, at_position, at_positions, element}
+use Rattle.lower_values.specs.declared.operand.Operand.{Operand}
+use Rattle.lower_values.specs.Scopes.{Scope}
+use Rattle.lower_values.specs.Lowerings.{Lowering, Lowered, done, ◌>>=◌ as ◌then◌, giving, acting}
+use Rattle.lower_values.specs.Operations.{values_of, arranged, on_scalars, at_position, at_positions, element}
 use Rattle.value_laws.specs.Standing.{Kept}
 use Rattle.value_laws.proofs.Ops.{over-op, ending}
 use Rattle.value_laws.proofs.Ordered.{all-weaker}

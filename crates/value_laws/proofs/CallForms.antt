@@ -19,12 +19,12 @@ use Rattle.hlfir_ops.specs.declared.what.Reduction.TheVariants as totals
 use Rattle.hlfir_ops.specs.Numbers.{numbers_of}
 use Rattle.hlfir_meaning.specs.Environments.{Environment}
 use Rattle.hlfir_meaning.specs.Operators.{reduction_word}
-use Rattle.lower_assign.specs.declared.operand.Operand.{Operand}
-use Rattle.lower_assign.specs.Scopes.{Scope}
-use Rattle.lower_assign.specs.Lowerings.{Lowering, ◌>>=◌ as ◌then◌}
-use Rattle.lower_assign.specs.Operations.{call_on, nesting_of}
-use Rattle.lower_assign.specs.References.{first_name, or_nothing, inquiry}
-use Rattle.lower_assign.specs.Values.{values, nested, called}
+use Rattle.lower_values.specs.declared.operand.Operand.{Operand}
+use Rattle.lower_values.specs.Scopes.{Scope}
+use Rattle.lower_values.specs.Lowerings.{Lowering, ◌>>=◌ as ◌then◌}
+use Rattle.lower_values.specs.Operations.{call_on, nesting_of}
+use Rattle.lower_values.specs.References.{first_name, or_nothing, inquiry}
+use Rattle.lower_values.specs.Values.{values, nested, called}
 use Rattle.value_laws.specs.Standing.{Does, StandEach}
 use Rattle.value_laws.specs.Arguments.{ArgumentsStand}
 use Rattle.value_laws.specs.Names.{DeclareStands, Agrees}

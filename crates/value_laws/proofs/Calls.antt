@@ -23,9 +23,9 @@ use Rattle.hlfir_meaning.specs.Environments.{Environment, scalar_in}
 use Rattle.hlfir_meaning.specs.Operators.{operation_value, operation_map, select_operation}
 use Rattle.hlfir_meaning.specs.Places.{columns_of, as_column, over}
 use Rattle.hlfir_meaning.specs.Stage1.{made, as_scalar, scalars}
-use Rattle.lower_assign.specs.declared.operand.Operand.{Operand}
-use Rattle.lower_assign.specs.Scopes.{Scope}
-use Rattle.lower_assign.specs.Operations.{values_of, arranged, rank_from, at_each, operation, call_on, call_elem}
+use Rattle.lower_values.specs.declared.operand.Operand.{Operand}
+use Rattle.lower_values.specs.Scopes.{Scope}
+use Rattle.lower_values.specs.Operations.{values_of, arranged, rank_from, at_each, operation, call_on, call_elem}
 use Rattle.value_laws.specs.Standing.{Does, Stands, StandEach, values_each, operands_each}
 use Rattle.value_laws.proofs.Elementals.{each-bounds}
 use Rattle.value_laws.proofs.Settled.{settled_if, settle_if, StandsIf, does-scalar_if}

@@ -11,11 +11,11 @@ use Rattle.hlfir_ops.specs.declared.what.ValueBinary.{ValueBinary}
 use Rattle.hlfir_ops.specs.declared.what.What.TheVariants as what
 use Rattle.hlfir_ops.specs.Numbers.{numbers_of}
 use Rattle.hlfir_ops.specs.RulesForms.{result_elem}
-use Rattle.lower_assign.specs.declared.operand.Operand.{Operand}
-use Rattle.lower_assign.specs.Scopes.{Scope}
-use Rattle.lower_assign.specs.Lowerings.{Lowering, done, ◌>>=◌ as ◌then◌}
-use Rattle.lower_assign.specs.Operations.{binary_of, binary_operation, call_on, vector}
-use Rattle.lower_assign.specs.Values.{value, values, nested}
+use Rattle.lower_values.specs.declared.operand.Operand.{Operand}
+use Rattle.lower_values.specs.Scopes.{Scope}
+use Rattle.lower_values.specs.Lowerings.{Lowering, done, ◌>>=◌ as ◌then◌}
+use Rattle.lower_values.specs.Operations.{binary_of, binary_operation, call_on, vector}
+use Rattle.lower_values.specs.Values.{value, values, nested}
 use Rattle.value_laws.specs.Arguments.{where_last}
 use Rattle.value_laws.specs.Sound.{IsSound, AreSound, IsClear, AreClear, AreJoined}
 use Rattle.value_laws.proofs.OwnNumbers.{IsTidy, HasOwn, DeclaresBelow, tidy-done, tidy-then, tidy-operation, tidy-vector, tidy-call}

@@ -16,10 +16,10 @@ use Rattle.hlfir_ops.specs.declared.what.ValueBinary.{ValueBinary}
 use Rattle.hlfir_ops.specs.declared.what.ValueBinary.TheVariants as binaries
 use Rattle.hlfir_ops.specs.declared.what.What.TheVariants as what
 use Rattle.hlfir_meaning.specs.Stage1.{subscript_numbers}
-use Rattle.lower_assign.specs.Scopes.{Scope}
-use Rattle.lower_assign.specs.Lowerings.{◌>>=◌ as ◌then◌}
-use Rattle.lower_assign.specs.Operations.{binary_of, binary_operation, in_parentheses, unary_operation, nesting_of}
-use Rattle.lower_assign.specs.Values.{value, values, nested, called}
+use Rattle.lower_values.specs.Scopes.{Scope}
+use Rattle.lower_values.specs.Lowerings.{◌>>=◌ as ◌then◌}
+use Rattle.lower_values.specs.Operations.{binary_of, binary_operation, in_parentheses, unary_operation, nesting_of}
+use Rattle.lower_values.specs.Values.{value, values, nested, called}
 use Rattle.ws_space.specs.Values.{is_among}
 use Rattle.hlfir_ops.specs.Numbers.{numbers_of}
 use Rattle.value_laws.specs.Sound.{IsSoundCall, IsSound, AreSound, AreSoundSubs, ByCall, IsClear, AreClear, AreJoined}

@@ -18,11 +18,11 @@ use Rattle.hlfir_ops.specs.declared.op.ValueId.{ValueId}
 use Rattle.hlfir_ops.specs.Numbers.{own_numbers, numbers_of}
 use Rattle.hlfir_ops.proofs.Numbered.{op_numbers-op_of}
 use Rattle.hlfir_meaning.specs.Stage1.{subscripts_in, subscript_numbers}
-use Rattle.lower_assign.specs.declared.operand.Operand.{Operand}
-use Rattle.lower_assign.specs.Scopes.{Scope}
-use Rattle.lower_assign.specs.Lowerings.{Lowering, giving, scoped, giving_by, regions_from, ◌>>=◌ as ◌then◌}
-use Rattle.lower_assign.specs.Operations.{rank_from, on_scalars, at_each, element, operation, call_on}
-use Rattle.lower_assign.specs.Values.{constant_or, folded}
+use Rattle.lower_values.specs.declared.operand.Operand.{Operand}
+use Rattle.lower_values.specs.Scopes.{Scope}
+use Rattle.lower_values.specs.Lowerings.{Lowering, giving, scoped, giving_by, regions_from, ◌>>=◌ as ◌then◌}
+use Rattle.lower_values.specs.Operations.{rank_from, on_scalars, at_each, element, operation, call_on}
+use Rattle.lower_values.specs.Values.{constant_or, folded}
 use Rattle.value_laws.specs.Standing.{IsOwn}
 use Rattle.value_laws.specs.Sound.{UnlessValue}
 use Rattle.value_laws.proofs.VectorNumbers.{subscripts-op, OwnSubscripts, VectorsFor, vectors-front, vectors-back, vectors-one}

@@ -21,12 +21,12 @@ use Rattle.hlfir_ops.specs.declared.what.What.TheVariants as what
 use Rattle.hlfir_ops.specs.Numbers.{numbers_of}
 use Rattle.hlfir_ops.specs.RulesValues.{elem_of}
 use Rattle.hlfir_ops.specs.RulesForms.{section_rank}
-use Rattle.lower_assign.specs.declared.operand.Operand.{Operand}
-use Rattle.lower_assign.specs.Scopes.{Scope}
-use Rattle.lower_assign.specs.Lowerings.{Lowering, done, giving, scoped, ◌>>=◌ as ◌then◌}
-use Rattle.lower_assign.specs.Operations.{value_of_whole, in_parentheses, unary_operation, vector}
-use Rattle.lower_assign.specs.References.{loaded, load_of, part_kind, designated, sub_kind, reference}
-use Rattle.lower_assign.specs.Values.{constant_or, folded, value, values, part_of, subscripts}
+use Rattle.lower_values.specs.declared.operand.Operand.{Operand}
+use Rattle.lower_values.specs.Scopes.{Scope}
+use Rattle.lower_values.specs.Lowerings.{Lowering, done, giving, scoped, ◌>>=◌ as ◌then◌}
+use Rattle.lower_values.specs.Operations.{value_of_whole, in_parentheses, unary_operation, vector}
+use Rattle.lower_values.specs.References.{loaded, load_of, part_kind, designated, sub_kind, reference}
+use Rattle.lower_values.specs.Values.{constant_or, folded, value, values, part_of, subscripts}
 use Rattle.value_laws.specs.Variables.{IsNamed}
 use Rattle.value_laws.specs.Sound.{IsSound, ByCopy, IsClear}
 use Rattle.value_laws.proofs.OwnNumbers.{IsTidy, HasOwn, DeclaresBelow, tidy-giving}

@@ -20,14 +20,14 @@ use Rattle.hlfir_ops.specs.RulesValues.{elem_of, rank_of}
 use Rattle.hlfir_ops.specs.RulesForms.{section_rank}
 use Rattle.hlfir_ops.proofs.Numbered.{numbers_of-append, op_numbers-op_of}
 use Rattle.hlfir_meaning.specs.Stage1.{subscript_numbers}
-use Rattle.lower_assign.specs.declared.operand.Operand.{Operand}
-use Rattle.lower_assign.specs.declared.operand.Subscript.{Subscript}
-use Rattle.lower_assign.specs.declared.operand.Subscript.TheVariants.{One, Vector}
-use Rattle.lower_assign.specs.Scopes.{Scope}
-use Rattle.lower_assign.specs.Lowerings.{Lowering, done, giving, ◌>>=◌ as ◌then◌}
-use Rattle.lower_assign.specs.Operations.{constant}
-use Rattle.lower_assign.specs.References.{variable_of, reference, load_of, loaded, subscript_of, sub_kind, sub_values, part_kind, bound, designated}
-use Rattle.lower_assign.specs.Values.{value, part_of, subscripts, subscript, given_or}
+use Rattle.lower_values.specs.declared.operand.Operand.{Operand}
+use Rattle.lower_values.specs.declared.operand.Subscript.{Subscript}
+use Rattle.lower_values.specs.declared.operand.Subscript.TheVariants.{One, Vector}
+use Rattle.lower_values.specs.Scopes.{Scope}
+use Rattle.lower_values.specs.Lowerings.{Lowering, done, giving, ◌>>=◌ as ◌then◌}
+use Rattle.lower_values.specs.Operations.{constant}
+use Rattle.lower_values.specs.References.{variable_of, reference, load_of, loaded, subscript_of, sub_kind, sub_values, part_kind, bound, designated}
+use Rattle.lower_values.specs.Values.{value, part_of, subscripts, subscript, given_or}
 use Rattle.value_laws.specs.Sound.{AreSoundSubs, IsSoundSub, IsSoundGiven, IsClear, AreClearSubs, IsClearSub, IsClearGiven}
 use Rattle.value_laws.proofs.OwnNumbers.{HasOwn, DeclaresBelow, vectors_of, vectors_in, own-later, designate-vectors, tidy-giving, tidy-loaded}
 use Rattle.value_laws.proofs.TidyExpressions.{tidy-reference, tidy-bound, tidy-subscripts, tidy-subscript, tidy-given}

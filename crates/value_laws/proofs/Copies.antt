@@ -23,10 +23,10 @@ use Rattle.hlfir_meaning.specs.Environments.{Value, array, Environment, with_val
 use Rattle.hlfir_meaning.specs.Places.{column_at}
 use Rattle.hlfir_meaning.specs.References.{held_extents, held_values}
 use Rattle.hlfir_meaning.specs.Stage1 as walked
-use Rattle.lower_assign.specs.declared.operand.Operand.{Operand}
-use Rattle.lower_assign.specs.Scopes.{Scope}
-use Rattle.lower_assign.specs.Lowerings.{giving}
-use Rattle.lower_assign.specs.Operations.{as_expr, value_of_whole, in_parentheses, unary_operation}
+use Rattle.lower_values.specs.declared.operand.Operand.{Operand}
+use Rattle.lower_values.specs.Scopes.{Scope}
+use Rattle.lower_values.specs.Lowerings.{giving}
+use Rattle.lower_values.specs.Operations.{as_expr, value_of_whole, in_parentheses, unary_operation}
 use Rattle.value_laws.specs.Standing.{Does, Gives, AreIn, Stands, StandsSettled, settled}
 use Rattle.value_laws.specs.Variables.{IsArrayOf, IsWhole, IsNamed, IsWholeWhereNamed}
 use Rattle.value_laws.proofs.Ordered.{ordered-none}

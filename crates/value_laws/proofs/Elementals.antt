@@ -23,9 +23,9 @@ use Rattle.hlfir_meaning.specs.Order.{ends}
 use Rattle.hlfir_meaning.specs.Places.{column_at, columns_of, as_column, over}
 use Rattle.hlfir_meaning.specs.Stage1.{applied, operands_of, deferred_in, elemental}
 use Rattle.hlfir_meaning.specs.Stage2.{operands, deferred_by, together, done, stage2}
-use Rattle.lower_assign.specs.declared.operand.Operand.{Operand}
-use Rattle.lower_assign.specs.Scopes.{Scope}
-use Rattle.lower_assign.specs.Operations.{values_of, arranged, at_positions, element}
+use Rattle.lower_values.specs.declared.operand.Operand.{Operand}
+use Rattle.lower_values.specs.Scopes.{Scope}
+use Rattle.lower_values.specs.Operations.{values_of, arranged, at_positions, element}
 use Rattle.value_laws.specs.Standing.{IsOwn, Alike, Apart, Gives, AreIn, IsOfRank, IsOrdered, Stands, StandEach, values_each, operands_each}
 use Rattle.value_laws.proofs.Ordered.{all-front, all-back, all-weaker, together-ordered, ordered-append, ordered-none, ordered-one}
 use Rattle.value_laws.proofs.Ops.{applied-op}

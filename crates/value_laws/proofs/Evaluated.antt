@@ -21,9 +21,9 @@ use Rattle.hlfir_meaning.specs.Operators.{reduction_word}
 use Rattle.hlfir_meaning.specs.Places.{column_at}
 use Rattle.hlfir_meaning.specs.Stage1.{as_scalar}
 use Rattle.hlfir_meaning.specs.Stage2.{deferred_by, stage2, values, whole}
-use Rattle.lower_assign.specs.declared.operand.Operand.{Operand}
-use Rattle.lower_assign.specs.Scopes.{Scope}
-use Rattle.lower_assign.specs.Operations.{call_on, total}
+use Rattle.lower_values.specs.declared.operand.Operand.{Operand}
+use Rattle.lower_values.specs.Scopes.{Scope}
+use Rattle.lower_values.specs.Operations.{call_on, total}
 use Rattle.value_laws.specs.Standing.{Does, Gives, AreIn, Stands}
 use Rattle.value_laws.proofs.Ordered.{all-weaker}
 use Rattle.value_laws.proofs.Elementals.{left-gives, shapes-are}

@@ -31,12 +31,12 @@ use Rattle.hlfir_ops.specs.declared.what.ValueBinary.{ValueBinary}
 use Rattle.hlfir_ops.specs.Numbers.{numbers_of}
 use Rattle.hlfir_ops.specs.RulesValues.{rank_of}
 use Rattle.hlfir_meaning.specs.Environments.{Environment}
-use Rattle.lower_assign.specs.declared.operand.Operand.{Operand}
-use Rattle.lower_assign.specs.Scopes.{Scope}
-use Rattle.lower_assign.specs.Lowerings.{Lowering, done, next, ◌>>=◌ as ◌then◌}
-use Rattle.lower_assign.specs.Operations.{constant, binary_of, binary_operation, value_of_whole, in_parentheses, unary_operation, joined, vector}
-use Rattle.lower_assign.specs.References.{reference, bound, loaded}
-use Rattle.lower_assign.specs.Values.{value, values, part_of, subscripts, subscript, given_or}
+use Rattle.lower_values.specs.declared.operand.Operand.{Operand}
+use Rattle.lower_values.specs.Scopes.{Scope}
+use Rattle.lower_values.specs.Lowerings.{Lowering, done, next, ◌>>=◌ as ◌then◌}
+use Rattle.lower_values.specs.Operations.{constant, binary_of, binary_operation, value_of_whole, in_parentheses, unary_operation, joined, vector}
+use Rattle.lower_values.specs.References.{reference, bound, loaded}
+use Rattle.lower_values.specs.Values.{value, values, part_of, subscripts, subscript, given_or}
 use Rattle.value_laws.specs.Standing.{Kept, Does, Stands, StandEach}
 use Rattle.value_laws.specs.Arguments.{ArgumentsStand, is_settled, LeavesAs, PartStands, GivenStands, SubscriptStands, SubscriptsStand}
 use Rattle.value_laws.specs.Laws.{PartsStand, IfParts}

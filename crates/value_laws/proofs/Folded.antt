@@ -21,11 +21,11 @@ use Rattle.array_meaning.specs.Stage1 as source
 use Rattle.array_meaning.specs.Stage1.{named, walk, unary_on, binary_on}
 use Rattle.hlfir_ops.specs.declared.kinds.Elem.TheVariants.{I32}
 use Rattle.hlfir_meaning.specs.Environments.{Environment}
-use Rattle.lower_assign.specs.declared.operand.Operand.{Operand}
-use Rattle.lower_assign.specs.Scopes.{Scope}
-use Rattle.lower_assign.specs.Lowerings.{Lowering}
-use Rattle.lower_assign.specs.Operations.{constant}
-use Rattle.lower_assign.specs.Values.{constant_or, folded}
+use Rattle.lower_values.specs.declared.operand.Operand.{Operand}
+use Rattle.lower_values.specs.Scopes.{Scope}
+use Rattle.lower_values.specs.Lowerings.{Lowering}
+use Rattle.lower_values.specs.Operations.{constant}
+use Rattle.lower_values.specs.Values.{constant_or, folded}
 use Rattle.value_laws.specs.Standing.{Does, Stands, settled, StandsSettled}
 use Rattle.value_laws.specs.Names.{IfValue, ConstantsAgree}
 use Rattle.value_laws.specs.Sound.{UnlessValue}

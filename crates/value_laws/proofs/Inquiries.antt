@@ -33,11 +33,11 @@ use Rattle.hlfir_meaning.specs.Environments.{Value, variable, scalar, Environmen
 use Rattle.hlfir_meaning.specs.Order.{ends}
 use Rattle.hlfir_meaning.specs.References as references
 use Rattle.hlfir_meaning.specs.Stage1 as walked
-use Rattle.lower_assign.specs.declared.operand.Operand.{Operand}
-use Rattle.lower_assign.specs.Scopes.{Scope}
-use Rattle.lower_assign.specs.Lowerings.{Lowering, done, giving, scoped, ◌>>=◌ as ◌then◌}
-use Rattle.lower_assign.specs.References.{boxed, reference, bound, size, bound_word, bound_or_size, declare_of, is_allocated, inquiry_of, inquiry}
-use Rattle.lower_assign.specs.References as lowered
+use Rattle.lower_values.specs.declared.operand.Operand.{Operand}
+use Rattle.lower_values.specs.Scopes.{Scope}
+use Rattle.lower_values.specs.Lowerings.{Lowering, done, giving, scoped, ◌>>=◌ as ◌then◌}
+use Rattle.lower_values.specs.References.{boxed, reference, bound, size, bound_word, bound_or_size, declare_of, is_allocated, inquiry_of, inquiry}
+use Rattle.lower_values.specs.References as lowered
 use Rattle.value_laws.specs.Standing.{Goes, Does, Stands}
 use Rattle.value_laws.specs.Names.{DeclareStands}
 use Rattle.value_laws.proofs.Names.{boxes}

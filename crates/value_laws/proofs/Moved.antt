@@ -9,10 +9,10 @@ use Rattle.array_meaning.specs.Stage2 as later
 use Rattle.hlfir_ops.specs.Numbers.{numbers_of}
 use Rattle.hlfir_meaning.specs.Environments.{Environment, Deferred}
 use Rattle.hlfir_meaning.specs.Stage2.{deferred_by}
-use Rattle.lower_assign.specs.declared.operand.Operand.{Operand}
-use Rattle.lower_assign.specs.Scopes.{Scope}
-use Rattle.lower_assign.specs.Lowerings.{Lowering, ◌>>=◌ as ◌then◌}
-use Rattle.lower_assign.specs.Operations.{binary_of, binary_operation}
+use Rattle.lower_values.specs.declared.operand.Operand.{Operand}
+use Rattle.lower_values.specs.Scopes.{Scope}
+use Rattle.lower_values.specs.Lowerings.{Lowering, ◌>>=◌ as ◌then◌}
+use Rattle.lower_values.specs.Operations.{binary_of, binary_operation}
 use Rattle.value_laws.specs.Standing.{Kept, Alike, Gives, Stands}
 use Rattle.value_laws.specs.Laws.{Leaves}
 use Rattle.value_laws.proofs.Ordered.{ordered-wider}

@@ -20,12 +20,12 @@ use Rattle.hlfir_ops.specs.declared.kinds.ValueKind.TheVariants as kind
 use Rattle.hlfir_ops.specs.declared.op.ValueId.{ValueId}
 use Rattle.hlfir_ops.specs.RulesValues.{rank_of}
 use Rattle.hlfir_meaning.specs.Environments.{Environment}
-use Rattle.lower_assign.specs.declared.operand.Operand.{Operand}
-use Rattle.lower_assign.specs.Scopes.{Scope, index_of}
-use Rattle.lower_assign.specs.Lowerings.{Lowering, done, giving, scoped, ◌>>=◌ as ◌then◌}
-use Rattle.lower_assign.specs.Operations.{constant}
-use Rattle.lower_assign.specs.References.{boxed, loaded, variable_of, truth_of, variable_or_truth, index_or_other, named}
-use Rattle.lower_assign.specs.Values.{constant_or, folded, value}
+use Rattle.lower_values.specs.declared.operand.Operand.{Operand}
+use Rattle.lower_values.specs.Scopes.{Scope, index_of}
+use Rattle.lower_values.specs.Lowerings.{Lowering, done, giving, scoped, ◌>>=◌ as ◌then◌}
+use Rattle.lower_values.specs.Operations.{constant}
+use Rattle.lower_values.specs.References.{boxed, loaded, variable_of, truth_of, variable_or_truth, index_or_other, named}
+use Rattle.lower_values.specs.Values.{constant_or, folded, value}
 use Rattle.value_laws.specs.Standing.{Does, Stands}
 use Rattle.value_laws.specs.Names.{IfValue, Agrees}
 use Rattle.value_laws.specs.Variables.{IsNamed, Fits}

@@ -35,10 +35,10 @@ use Rattle.hlfir_meaning.specs.Places.{column_at}
 use Rattle.hlfir_meaning.specs.Selections.{array_operand}
 use Rattle.hlfir_meaning.specs.References as references
 use Rattle.hlfir_meaning.specs.Stage1 as walked
-use Rattle.lower_assign.specs.declared.operand.Operand.{Operand}
-use Rattle.lower_assign.specs.Scopes.{Scope}
-use Rattle.lower_assign.specs.Lowerings.{Lowering, done, giving, ◌>>=◌ as ◌then◌}
-use Rattle.lower_assign.specs.References.{boxed, loaded}
+use Rattle.lower_values.specs.declared.operand.Operand.{Operand}
+use Rattle.lower_values.specs.Scopes.{Scope}
+use Rattle.lower_values.specs.Lowerings.{Lowering, done, giving, ◌>>=◌ as ◌then◌}
+use Rattle.lower_values.specs.References.{boxed, loaded}
 use Rattle.value_laws.specs.Standing.{Goes, Does, IsOwn, Gives, AreIn, Stands}
 use Rattle.value_laws.specs.Variables.{IsArrayOf, Fits, IsWholeWhereNamed}
 use Rattle.value_laws.proofs.Ordered.{ordered-none}

@@ -22,11 +22,11 @@ use Rattle.hlfir_ops.specs.RulesForms.{result_elem}
 use Rattle.hlfir_meaning.specs.Environments.{Environment, scalar_in}
 use Rattle.hlfir_meaning.specs.Operators as operators
 use Rattle.hlfir_meaning.specs.Operators.{operation_value, operation_map}
-use Rattle.lower_assign.specs.declared.operand.Operand.{Operand}
-use Rattle.lower_assign.specs.Scopes.{Scope}
-use Rattle.lower_assign.specs.Lowerings.{Lowering, done, ◌>>=◌ as ◌then◌}
-use Rattle.lower_assign.specs.Operations.{rank_from, at_each, binary_operation, joined}
-use Rattle.lower_assign.specs.Values.{value, nested}
+use Rattle.lower_values.specs.declared.operand.Operand.{Operand}
+use Rattle.lower_values.specs.Scopes.{Scope}
+use Rattle.lower_values.specs.Lowerings.{Lowering, done, ◌>>=◌ as ◌then◌}
+use Rattle.lower_values.specs.Operations.{rank_from, at_each, binary_operation, joined}
+use Rattle.lower_values.specs.Values.{value, nested}
 use Rattle.value_laws.specs.Standing.{Kept, Does, Stands}
 use Rattle.value_laws.specs.Arguments.{ArgumentsStand}
 use Rattle.value_laws.proofs.Calls.{operands-call, values-call, settled-call}

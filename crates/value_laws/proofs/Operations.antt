@@ -37,11 +37,11 @@ use Rattle.hlfir_meaning.specs.Operators.{operation_value, operation_map, unary_
 use Rattle.hlfir_meaning.specs.Order.{ends}
 use Rattle.hlfir_meaning.specs.Places.{columns_of, as_column, over}
 use Rattle.hlfir_meaning.specs.Stage1.{made, is_whole, as_scalar, scalars, elemental}
-use Rattle.lower_assign.specs.declared.operand.Operand.{Operand}
-use Rattle.lower_assign.specs.Scopes.{Scope, inside}
-use Rattle.lower_assign.specs.Lowerings.{giving_by}
-use Rattle.lower_assign.specs.Operations.{values_of, arranged, rank_from, on_scalars, element, at_each, operation}
-use Rattle.lower_assign.specs.Operations as lowered
+use Rattle.lower_values.specs.declared.operand.Operand.{Operand}
+use Rattle.lower_values.specs.Scopes.{Scope, inside}
+use Rattle.lower_values.specs.Lowerings.{giving_by}
+use Rattle.lower_values.specs.Operations.{values_of, arranged, rank_from, on_scalars, element, at_each, operation}
+use Rattle.lower_values.specs.Operations as lowered
 use Rattle.value_laws.specs.Standing.{Does, IsOfRank, Stands, StandEach, values_each, operands_each}
 use Rattle.value_laws.proofs.Ops.{ops_in-first}
 use Rattle.value_laws.proofs.Elementals.{each-bounds, elemental-stands}

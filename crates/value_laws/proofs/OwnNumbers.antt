@@ -27,14 +27,14 @@ use Rattle.hlfir_ops.specs.RulesValues.{elem_of, rank_of}
 use Rattle.hlfir_ops.specs.RulesForms.{section_rank}
 use Rattle.hlfir_ops.proofs.Numbered.{numbers_of-append, op_numbers-op_of}
 use Rattle.hlfir_meaning.specs.Stage1.{subscripts_in, vector_subscripts, subscript_numbers}
-use Rattle.lower_assign.specs.declared.operand.Operand.{Operand}
-use Rattle.lower_assign.specs.declared.operand.Subscript.{Subscript}
-use Rattle.lower_assign.specs.declared.operand.Subscript.TheVariants.{One, Range, Vector}
-use Rattle.lower_assign.specs.Scopes.{Scope, index_of}
-use Rattle.lower_assign.specs.Lowerings.{Lowering, done, giving, scoped, giving_by, regions_from, ◌>>=◌ as ◌then◌}
-use Rattle.lower_assign.specs.Operations.{rank_from, on_scalars, at_each, element, operation, value_of_whole, in_parentheses, unary_operation, call_on, vector}
-use Rattle.lower_assign.specs.References.{variable_of, truth_of, box_of, boxed, load_of, loaded, variable_or_truth, index_or_other, named, subscript_of, sub_kind, sub_values, part_kind, designated}
-use Rattle.lower_assign.specs.Values.{constant_or, folded}
+use Rattle.lower_values.specs.declared.operand.Operand.{Operand}
+use Rattle.lower_values.specs.declared.operand.Subscript.{Subscript}
+use Rattle.lower_values.specs.declared.operand.Subscript.TheVariants.{One, Range, Vector}
+use Rattle.lower_values.specs.Scopes.{Scope, index_of}
+use Rattle.lower_values.specs.Lowerings.{Lowering, done, giving, scoped, giving_by, regions_from, ◌>>=◌ as ◌then◌}
+use Rattle.lower_values.specs.Operations.{rank_from, on_scalars, at_each, element, operation, value_of_whole, in_parentheses, unary_operation, call_on, vector}
+use Rattle.lower_values.specs.References.{variable_of, truth_of, box_of, boxed, load_of, loaded, variable_or_truth, index_or_other, named, subscript_of, sub_kind, sub_values, part_kind, designated}
+use Rattle.lower_values.specs.Values.{constant_or, folded}
 use Rattle.value_laws.specs.Standing.{IsOwn}
 use Rattle.value_laws.proofs.Elementals.{own-wider}
 use Rattle.value_laws.proofs.VectorNumbers.{OwnSubscripts, own-none, own-plain, own-append, subscripts-op, among-all}

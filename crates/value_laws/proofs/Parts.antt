@@ -18,12 +18,12 @@ use Rattle.hlfir_ops.specs.Numbers.{numbers_of}
 use Rattle.hlfir_ops.specs.RulesValues.{rank_of}
 use Rattle.hlfir_meaning.specs.Environments.{Value, Environment}
 use Rattle.hlfir_meaning.specs.Operators.{reduction_word}
-use Rattle.lower_assign.specs.declared.names.Names.{Names}
-use Rattle.lower_assign.specs.declared.operand.Operand.{Operand}
-use Rattle.lower_assign.specs.Scopes.{Scope}
-use Rattle.lower_assign.specs.Lowerings.{Lowering, done, giving, ◌>>=◌ as ◌then◌}
-use Rattle.lower_assign.specs.Operations.{call_on}
-use Rattle.lower_assign.specs.Values.{value, values}
+use Rattle.lower_values.specs.declared.names.Names.{Names}
+use Rattle.lower_values.specs.declared.operand.Operand.{Operand}
+use Rattle.lower_values.specs.Scopes.{Scope}
+use Rattle.lower_values.specs.Lowerings.{Lowering, done, giving, ◌>>=◌ as ◌then◌}
+use Rattle.lower_values.specs.Operations.{call_on}
+use Rattle.lower_values.specs.Values.{value, values}
 use Rattle.value_laws.specs.Standing.{Kept, Does, IsOfRank, Stands, StandEach, settled, StandsSettled}
 use Rattle.value_laws.specs.Singles.{IsSingle}
 use Rattle.value_laws.specs.Names.{DeclareStands, Agrees}

@@ -14,10 +14,10 @@ use Rattle.hlfir_meaning.specs.Environments.{Value, scalar, Environment, with_va
 use Rattle.hlfir_meaning.specs.Order.{ends}
 use Rattle.hlfir_meaning.specs.Places.{column_at}
 use Rattle.hlfir_meaning.specs.Stage1.{made, is_whole, settled, as_scalar}
-use Rattle.lower_assign.specs.declared.operand.Operand.{Operand}
-use Rattle.lower_assign.specs.Scopes.{Scope}
-use Rattle.lower_assign.specs.Lowerings.{giving}
-use Rattle.lower_assign.specs.Operations.{constant}
+use Rattle.lower_values.specs.declared.operand.Operand.{Operand}
+use Rattle.lower_values.specs.Scopes.{Scope}
+use Rattle.lower_values.specs.Lowerings.{giving}
+use Rattle.lower_values.specs.Operations.{constant}
 use Rattle.value_laws.specs.Standing.{Goes, Does, Stands}
 use Rattle.value_laws.proofs.Ordered.{ordered-none}
 use Rattle.value_laws.proofs.Ops.{given_once}

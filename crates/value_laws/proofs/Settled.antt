@@ -17,9 +17,9 @@ use Rattle.hlfir_ops.proofs.Numbered.{op_numbers-op_of}
 use Rattle.hlfir_meaning.specs.Environments.{Value, Environment, with_value, yielding}
 use Rattle.hlfir_meaning.specs.Order.{ends}
 use Rattle.hlfir_meaning.specs.Stage1 as walked
-use Rattle.lower_assign.specs.declared.operand.Operand.{Operand}
-use Rattle.lower_assign.specs.Scopes.{Scope}
-use Rattle.lower_assign.specs.Lowerings.{Lowering}
+use Rattle.lower_values.specs.declared.operand.Operand.{Operand}
+use Rattle.lower_values.specs.Scopes.{Scope}
+use Rattle.lower_values.specs.Lowerings.{Lowering}
 use Rattle.value_laws.specs.Standing.{Goes, Does, Stands, settled, StandsSettled}
 use Rattle.value_laws.proofs.Ops.{given_once}
 use Rattle.value_laws.proofs.Walking.{with_value-here, goes-op}

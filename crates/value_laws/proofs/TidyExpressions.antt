@@ -21,14 +21,14 @@ use Rattle.hlfir_ops.specs.declared.what.ValueBinary.TheVariants as binaries
 use Rattle.hlfir_ops.specs.declared.what.What.TheVariants as what
 use Rattle.hlfir_ops.specs.Numbers.{numbers_of}
 use Rattle.hlfir_ops.specs.RulesForms.{result_elem}
-use Rattle.lower_assign.specs.declared.operand.Operand.{Operand}
-use Rattle.lower_assign.specs.declared.operand.Subscript.{Subscript}
-use Rattle.lower_assign.specs.declared.operand.Subscript.TheVariants.{Range}
-use Rattle.lower_assign.specs.Scopes.{Scope}
-use Rattle.lower_assign.specs.Lowerings.{Lowering, done, scoped, ◌>>=◌ as ◌then◌}
-use Rattle.lower_assign.specs.Operations.{constant, binary_of, binary_operation, in_parentheses, unary_operation, call_on, vector}
-use Rattle.lower_assign.specs.References.{variable_of, or_nothing, declare_of, boxed, reference, loaded, named, subscript_of, bound, designated, size, bound_word, bound_or_size, is_allocated, first_name, dimension_in, inquiry}
-use Rattle.lower_assign.specs.Values.{value, values, nested, called, part_of, subscripts, subscript, given_or}
+use Rattle.lower_values.specs.declared.operand.Operand.{Operand}
+use Rattle.lower_values.specs.declared.operand.Subscript.{Subscript}
+use Rattle.lower_values.specs.declared.operand.Subscript.TheVariants.{Range}
+use Rattle.lower_values.specs.Scopes.{Scope}
+use Rattle.lower_values.specs.Lowerings.{Lowering, done, scoped, ◌>>=◌ as ◌then◌}
+use Rattle.lower_values.specs.Operations.{constant, binary_of, binary_operation, in_parentheses, unary_operation, call_on, vector}
+use Rattle.lower_values.specs.References.{variable_of, or_nothing, declare_of, boxed, reference, loaded, named, subscript_of, bound, designated, size, bound_word, bound_or_size, is_allocated, first_name, dimension_in, inquiry}
+use Rattle.lower_values.specs.Values.{value, values, nested, called, part_of, subscripts, subscript, given_or}
 use Rattle.value_laws.specs.Standing.{IsOwn}
 use Rattle.value_laws.specs.Sound.{IsVariable, IsSoundCall, IsSoundPart, IsSound, AreSound, AreSoundSubs, IsSoundSub, IsSoundGiven}
 use Rattle.value_laws.proofs.OwnNumbers.{IsTidy, HasOwn, tidy-done, tidy-then, tidy-giving, tidy-operation, tidy-parentheses, tidy-unary, tidy-vector, tidy-call, tidy-scoped, tidy-folded, tidy-boxed, tidy-loaded, DeclaresBelow, tidy-named, vectors_of, vectors_in, HaveOwn, subscript-own, tidy-designated}

@@ -12,8 +12,8 @@ use Rattle.hlfir_ops.proofs.Numbered.{numbers_of-append, op_numbers-op_of}
 use Rattle.hlfir_meaning.specs.Environments.{Value, Environment, with_value}
 use Rattle.hlfir_meaning.specs.Order.{ends}
 use Rattle.hlfir_meaning.specs.Stage1.{stage1}
-use Rattle.lower_assign.specs.Scopes.{Scope}
-use Rattle.lower_assign.specs.Lowerings.{Lowering, done, ◌>>=◌ as ◌then◌, scoped}
+use Rattle.lower_values.specs.Scopes.{Scope}
+use Rattle.lower_values.specs.Lowerings.{Lowering, done, ◌>>=◌ as ◌then◌, scoped}
 use Rattle.value_laws.specs.Standing.{Kept, Passes, Goes, Does}
 use Rattle.value_laws.proofs.Ops.{given_once, stage1-op}
 

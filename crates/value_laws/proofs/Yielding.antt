@@ -14,11 +14,11 @@ use Rattle.hlfir_ops.specs.Trees.{op_of}
 use Rattle.hlfir_ops.specs.Numbers.{numbers_of}
 use Rattle.hlfir_meaning.specs.Environments.{Value, Environment, yielding}
 use Rattle.hlfir_meaning.specs.Stage1.{subscript_numbers, once, stage1}
-use Rattle.lower_assign.specs.declared.operand.Operand.{Operand}
-use Rattle.lower_assign.specs.Scopes.{Scope}
-use Rattle.lower_assign.specs.Lowerings.{Lowering, acting, ◌>>=◌ as ◌then◌}
+use Rattle.lower_values.specs.declared.operand.Operand.{Operand}
+use Rattle.lower_values.specs.Scopes.{Scope}
+use Rattle.lower_values.specs.Lowerings.{Lowering, acting, ◌>>=◌ as ◌then◌}
 use Rattle.lower_assign.specs.Statements.{yielded}
-use Rattle.lower_assign.specs.Values.{value}
+use Rattle.lower_values.specs.Values.{value}
 use Rattle.value_laws.specs.Standing.{Goes, IsOfRank, Stands}
 use Rattle.value_laws.specs.Names.{Agrees}
 use Rattle.value_laws.specs.Sound.{IsSound}

@@ -15,11 +15,11 @@ use Rattle.hlfir_ops.specs.declared.what.ValueBinary.{ValueBinary}
 use Rattle.hlfir_ops.specs.Numbers.{numbers_of}
 use Rattle.hlfir_ops.specs.RulesValues.{rank_of}
 use Rattle.hlfir_meaning.specs.Environments.{Environment}
-use Rattle.lower_assign.specs.declared.operand.Operand.{Operand}
-use Rattle.lower_assign.specs.Scopes.{Scope}
-use Rattle.lower_assign.specs.Operations.{joined}
-use Rattle.lower_assign.specs.References.{bound}
-use Rattle.lower_assign.specs.Values.{value, subscript, given_or}
+use Rattle.lower_values.specs.declared.operand.Operand.{Operand}
+use Rattle.lower_values.specs.Scopes.{Scope}
+use Rattle.lower_values.specs.Operations.{joined}
+use Rattle.lower_values.specs.References.{bound}
+use Rattle.lower_values.specs.Values.{value, subscript, given_or}
 use Rattle.value_laws.specs.Standing.{Kept, Does, Stands, settled, StandsSettled}
 
 -- whether this is so of the op after the last argument; of no op before it

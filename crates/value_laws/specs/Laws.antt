@@ -29,12 +29,12 @@ use Rattle.hlfir_ops.specs.declared.op.ValueId.{ValueId}
 use Rattle.hlfir_meaning.specs.Environments.{variable, Environment, yielding}
 use Rattle.hlfir_meaning.specs.Operators.{reduction_word}
 use Rattle.hlfir_meaning.specs.Stage2.{values, whole}
-use Rattle.lower_assign.specs.declared.operand.Operand.{Operand}
-use Rattle.lower_assign.specs.Scopes.{Scope, index_of}
-use Rattle.lower_assign.specs.Lowerings.{Lowering, next}
-use Rattle.lower_assign.specs.Operations.{constant, binary_of, binary_operation, in_parentheses, unary_operation, call_on, vector}
-use Rattle.lower_assign.specs.References.{boxed, loaded, declare_of, inquiry, reference}
-use Rattle.lower_assign.specs.Values.{folded, value, nested, part_of, subscripts}
+use Rattle.lower_values.specs.declared.operand.Operand.{Operand}
+use Rattle.lower_values.specs.Scopes.{Scope, index_of}
+use Rattle.lower_values.specs.Lowerings.{Lowering, next}
+use Rattle.lower_values.specs.Operations.{constant, binary_of, binary_operation, in_parentheses, unary_operation, call_on, vector}
+use Rattle.lower_values.specs.References.{boxed, loaded, declare_of, inquiry, reference}
+use Rattle.lower_values.specs.Values.{folded, value, nested, part_of, subscripts}
 use Rattle.value_laws.specs.Standing.{Does, AreIn, Stands, settled, StandsSettled, StandEach}
 use Rattle.value_laws.specs.Singles.{IsSingle}
 use Rattle.value_laws.specs.Arguments.{ArgumentsStand, SubscriptsStand}

@@ -14,9 +14,9 @@ use Rattle.array_meaning.specs.declared.world.World.{World}
 use Rattle.array_meaning.specs.declared.term.Term.TheVariants.{Scalar}
 use Rattle.array_meaning.specs.Stage1 as source
 use Rattle.hlfir_meaning.specs.Environments.{variable, Environment}
-use Rattle.lower_assign.specs.declared.names.Names.{Names}
-use Rattle.lower_assign.specs.declared.operand.Operand.{Operand}
-use Rattle.lower_assign.specs.References.{variable_of, truth_of}
+use Rattle.lower_values.specs.declared.names.Names.{Names}
+use Rattle.lower_values.specs.declared.operand.Operand.{Operand}
+use Rattle.lower_values.specs.References.{variable_of, truth_of}
 use Rattle.value_laws.specs.Variables.{Fits}
 
 -- where it is a value, this holds of it

@@ -21,11 +21,11 @@ use Rattle.hlfir_ops.specs.declared.what.BoundWord.TheVariants.{Lower, Upper}
 use Rattle.hlfir_ops.specs.declared.what.ValueBinary.{ValueBinary}
 use Rattle.hlfir_ops.specs.Numbers.{numbers_of}
 use Rattle.hlfir_ops.specs.RulesValues.{rank_of}
-use Rattle.lower_assign.specs.declared.operand.Operand.{Operand}
-use Rattle.lower_assign.specs.Scopes.{Scope, index_of}
-use Rattle.lower_assign.specs.Operations.{nesting_of, joined}
-use Rattle.lower_assign.specs.References.{variable_of, first_name, reference, bound}
-use Rattle.lower_assign.specs.Values.{value, values, subscript, given_or}
+use Rattle.lower_values.specs.declared.operand.Operand.{Operand}
+use Rattle.lower_values.specs.Scopes.{Scope, index_of}
+use Rattle.lower_values.specs.Operations.{nesting_of, joined}
+use Rattle.lower_values.specs.References.{variable_of, first_name, reference, bound}
+use Rattle.lower_values.specs.Values.{value, values, subscript, given_or}
 use Rattle.value_laws.specs.Arguments.{where_last, IsTaken, is_settled}
 
 -- ---- what can be lowered in a scope

@@ -14,9 +14,9 @@ use Rattle.hlfir_meaning.specs.Environments.{Value, scalar, Environment, Deferre
 use Rattle.hlfir_meaning.specs.Places.{column_at}
 use Rattle.hlfir_meaning.specs.Stage1.{stage1, vector}
 use Rattle.hlfir_meaning.specs.Stage2.{operands, deferred_by, stage2}
-use Rattle.lower_assign.specs.declared.operand.Operand.{Operand}
-use Rattle.lower_assign.specs.Scopes.{Scope}
-use Rattle.lower_assign.specs.Lowerings.{Lowering}
+use Rattle.lower_values.specs.declared.operand.Operand.{Operand}
+use Rattle.lower_values.specs.Scopes.{Scope}
+use Rattle.lower_values.specs.Lowerings.{Lowering}
 use Rattle.value_laws.specs.Variables.{IsWholeWhereNamed}
 
 -- ---- stage 1

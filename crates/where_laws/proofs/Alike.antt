@@ -5,7 +5,7 @@ use Rattle.ws_tree.specs.declared.expr.Expr.{Expr}
 use Rattle.ws_types.specs.Steps as source
 use Rattle.hlfir_meaning.specs.Environments.{OpRegion}
 use Rattle.hlfir_meaning.specs.Steps as ops
-use Rattle.lower_assign.specs.declared.names.Names.{Names}
+use Rattle.lower_values.specs.declared.names.Names.{Names}
 use Rattle.where_laws.specs.Steps.{MaskStands, MasksStand, EventStands, EventsStand, StepsStand}
 
 module _ (names : Names) where

@@ -23,7 +23,7 @@ use Rattle.hlfir_meaning.specs.Stage2.{operands}
 use Rattle.hlfir_meaning.specs.Steps.{Mask, Assignment, Step}
 use Rattle.hlfir_meaning.specs.Assign.{Target, target, step_shape, carried_out, with_target}
 use Rattle.hlfir_meaning.specs.Masks.{Progress, mask_values, operands_of_masks, splits_after, run_masks, run_assignment, run_part, run_step, run_steps}
-use Rattle.lower_assign.specs.declared.names.Names.{Names}
+use Rattle.lower_values.specs.declared.names.Names.{Names}
 use Rattle.world_laws.specs.Worlds.{FitsNames}
 use Rattle.world_laws.specs.Yields.{YieldStands, TargetStands, IsOfName, left_target, Reaches}
 use Rattle.where_laws.specs.Steps.{MasksStand, AssignmentStands, PartStands, StepStands, StepsStand}

@@ -16,7 +16,7 @@ use Rattle.array_meaning.specs.Assign as source
 use Rattle.hlfir_meaning.specs.Environments.{Yielded}
 use Rattle.hlfir_meaning.specs.Stage2.{targets}
 use Rattle.hlfir_meaning.specs.Assign.{Target, all_of, selected, movable, carried_out}
-use Rattle.lower_assign.specs.declared.names.Names.{Names}
+use Rattle.lower_values.specs.declared.names.Names.{Names}
 use Rattle.value_laws.proofs.Names.{whole_operands}
 use Rattle.world_laws.specs.Worlds.{FitsNames}
 use Rattle.world_laws.specs.Yields.{YieldStands, TargetStands}

@@ -18,9 +18,9 @@ use Rattle.hlfir_ops.specs.declared.op.Op.{Op}
 use Rattle.hlfir_ops.specs.Trees.{op_of, region_of}
 use Rattle.hlfir_ops.specs.Numbers.{op_numbers, numbers_of}
 use Rattle.hlfir_meaning.specs.Steps as ops
-use Rattle.lower_assign.specs.Scopes.{Scope, inside}
-use Rattle.lower_assign.specs.Lowerings.{Lowering, ◌>>=◌, scoped, statement_of, regions_from}
-use Rattle.lower_assign.specs.Values.{value}
+use Rattle.lower_values.specs.Scopes.{Scope, inside}
+use Rattle.lower_values.specs.Lowerings.{Lowering, ◌>>=◌, scoped, statement_of, regions_from}
+use Rattle.lower_values.specs.Values.{value}
 use Rattle.lower_assign.specs.Statements.{yielded, left, assignment, is_whole_allocatable}
 use Rattle.lower_constructs.specs.Modules.{statement, statements, elsewheres, elsewhere, third}
 use Rattle.kind_laws.proofs.NoFaults.{none_first, none_after}

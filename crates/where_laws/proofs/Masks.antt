@@ -17,7 +17,7 @@ use Rattle.hlfir_meaning.specs.Stage1.{walk}
 use Rattle.hlfir_meaning.specs.Stage2.{operands, values}
 use Rattle.hlfir_meaning.specs.Steps.{Mask}
 use Rattle.hlfir_meaning.specs.Masks.{mask_values, operands_of_masks, splits_after, last_line}
-use Rattle.lower_assign.specs.declared.names.Names.{Names}
+use Rattle.lower_values.specs.declared.names.Names.{Names}
 use Rattle.value_laws.specs.Standing.{AreIn}
 use Rattle.world_laws.specs.Worlds.{FitsNames}
 use Rattle.world_laws.specs.Yields.{region, Yields, YieldStands}

@@ -25,10 +25,10 @@ use Rattle.hlfir_ops.specs.Trees.{op_of}
 use Rattle.hlfir_meaning.specs.Steps as ops
 use Rattle.hlfir_meaning.specs.Masks.{run_masked, run_steps}
 use Rattle.hlfir_meaning.specs.Statements.{simple}
-use Rattle.lower_assign.specs.declared.names.Names.{Names}
-use Rattle.lower_assign.specs.Scopes.{Scope}
-use Rattle.lower_assign.specs.Lowerings.{regions_from}
-use Rattle.lower_assign.specs.Values.{value}
+use Rattle.lower_values.specs.declared.names.Names.{Names}
+use Rattle.lower_values.specs.Scopes.{Scope}
+use Rattle.lower_values.specs.Lowerings.{regions_from}
+use Rattle.lower_values.specs.Values.{value}
 use Rattle.lower_assign.specs.Statements.{yielded, left}
 use Rattle.lower_constructs.specs.Modules.{statement}
 use Rattle.kind_laws.proofs.NoFaults.{none_first, none_after}

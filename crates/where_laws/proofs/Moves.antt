@@ -27,8 +27,8 @@ use Rattle.hlfir_ops.specs.declared.kinds.Elem.{Elem}
 use Rattle.hlfir_ops.specs.declared.kinds.ValueKind.{ValueKind}
 use Rattle.hlfir_ops.specs.declared.kinds.ValueKind.TheVariants as value
 use Rattle.hlfir_ops.specs.RulesValues.{is_allocatable, rank_of}
-use Rattle.lower_assign.specs.References.{or_nothing}
-use Rattle.lower_assign.specs.Scopes.{Scope}
+use Rattle.lower_values.specs.References.{or_nothing}
+use Rattle.lower_values.specs.Scopes.{Scope}
 use Rattle.kind_laws.specs.Standing.{Knows, FitsEntry}
 use Rattle.kind_laws.proofs.NoFaults.{none_first, none_after}
 use Rattle.kind_laws.proofs.Sides as sides

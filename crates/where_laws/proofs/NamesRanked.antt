@@ -24,7 +24,7 @@ use Rattle.array_meaning.specs.Stage2.{operands, array_operand}
 use Rattle.hlfir_ops.specs.declared.kinds.ValueKind.{ValueKind}
 use Rattle.hlfir_ops.specs.declared.kinds.ValueKind.TheVariants as kind
 use Rattle.hlfir_ops.specs.RulesValues.{rank_of}
-use Rattle.lower_assign.specs.Scopes.{Scope, index_of}
+use Rattle.lower_values.specs.Scopes.{Scope, index_of}
 use Rattle.kind_laws.specs.Standing.{Knows, FitsEntry, NameIsKnown, EntryIsKnown}
 use Rattle.kind_laws.proofs.TypeFacts.{same_type, no_type}
 use Rattle.value_laws.specs.Variables.{Fits}

@@ -16,7 +16,7 @@ use Rattle.array_meaning.specs.Assign.{Target, target, step_shape, carried_out, 
 use Rattle.array_meaning.specs.Where.{operands_of}
 use Rattle.hlfir_meaning.specs.Steps.{Assignment, Step}
 use Rattle.hlfir_meaning.specs.Masks.{run_assignment, run_steps}
-use Rattle.lower_assign.specs.declared.names.Names.{Names}
+use Rattle.lower_values.specs.declared.names.Names.{Names}
 use Rattle.world_laws.specs.Worlds.{FitsNames}
 use Rattle.where_laws.specs.Steps.{AssignmentStands}
 use Rattle.where_laws.proofs.Same.{Same, same_then, ok_same}

@@ -18,9 +18,9 @@ use Rattle.hlfir_ops.specs.Trees.{region_of}
 use Rattle.hlfir_ops.specs.Numbers.{names_in, numbers_of}
 use Rattle.hlfir_ops.specs.Built.{is_where}
 use Rattle.hlfir_meaning.specs.Steps as ops
-use Rattle.lower_assign.specs.Scopes.{Scope, inside, with_indexes}
-use Rattle.lower_assign.specs.Lowerings.{Lowering, scoped, regions_from, ◌>>=◌}
-use Rattle.lower_assign.specs.Values.{value}
+use Rattle.lower_values.specs.Scopes.{Scope, inside, with_indexes}
+use Rattle.lower_values.specs.Lowerings.{Lowering, scoped, regions_from, ◌>>=◌}
+use Rattle.lower_values.specs.Values.{value}
 use Rattle.lower_assign.specs.Statements.{yielded, left, left_of, is_whole_allocatable}
 use Rattle.kind_laws.specs.Standing.{Knows}
 use Rattle.kind_laws.proofs.ScopesKnown.{inside_known}

@@ -30,10 +30,10 @@ use Rattle.array_meaning.proofs.LeftSides.{Selects, selects}
 use Rattle.hlfir_ops.specs.declared.kinds.Elem.{Elem}
 use Rattle.hlfir_ops.specs.declared.kinds.ValueKind.{ValueKind}
 use Rattle.hlfir_ops.specs.declared.kinds.ValueKind.TheVariants as value
-use Rattle.lower_assign.specs.declared.names.Names.{Names}
-use Rattle.lower_assign.specs.declared.operand.Operand.{Operand}
-use Rattle.lower_assign.specs.References.{variable_of}
-use Rattle.lower_assign.specs.Scopes.{Scope}
+use Rattle.lower_values.specs.declared.names.Names.{Names}
+use Rattle.lower_values.specs.declared.operand.Operand.{Operand}
+use Rattle.lower_values.specs.References.{variable_of}
+use Rattle.lower_values.specs.Scopes.{Scope}
 use Rattle.kind_laws.specs.Standing.{Knows, FitsEntry, NameIsKnown}
 use Rattle.kind_laws.proofs.NoFaults.{none_first, none_after, not_broken, left_false}
 use Rattle.kind_laws.proofs.ScopesKnown.{entry_variable}

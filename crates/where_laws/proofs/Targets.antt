@@ -19,7 +19,7 @@ use Rattle.hlfir_meaning.specs.Environments.{Yielded, result}
 use Rattle.hlfir_meaning.specs.Selections.{array_operand}
 use Rattle.hlfir_meaning.specs.Stage2.{values}
 use Rattle.hlfir_meaning.specs.Assign.{Target, all_of, selected, movable, step_shape, carried_out, new_bounds}
-use Rattle.lower_assign.specs.declared.names.Names.{Names}
+use Rattle.lower_values.specs.declared.names.Names.{Names}
 use Rattle.value_laws.specs.Standing.{AreIn}
 use Rattle.value_laws.proofs.Evaluated.{agreed-all}
 use Rattle.value_laws.proofs.Names.{whole_operands}

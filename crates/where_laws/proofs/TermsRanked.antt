@@ -36,7 +36,7 @@ use Rattle.array_meaning.specs.declared.term.Pick.{Pick}
 use Rattle.array_meaning.specs.declared.term.Pick.TheVariants as pick
 use Rattle.array_meaning.specs.Stage1.{allocated, picked, designator, unary_on, binary_on, called, known, value_of, subscript, walk, walks, picks, one_pick, end}
 use Rattle.array_meaning.proofs.Chains.{after_each, after_fact}
-use Rattle.lower_assign.specs.Scopes.{Scope}
+use Rattle.lower_values.specs.Scopes.{Scope}
 use Rattle.kind_laws.specs.Standing.{Knows}
 use Rattle.kind_laws.proofs.NoFaults.{none_first, none_after, not_broken, not_false}
 use Rattle.kind_laws.proofs.TypesKnown.{name_known}

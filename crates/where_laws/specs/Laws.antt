@@ -12,7 +12,7 @@ use Rattle.array_meaning.specs.declared.world.World.{World}
 use Rattle.array_meaning.specs.declared.term.Term.{Term}
 use Rattle.array_meaning.specs.Stage1.{walk}
 use Rattle.array_meaning.specs.Stage2.{operands}
-use Rattle.lower_assign.specs.Scopes.{Scope}
+use Rattle.lower_values.specs.Scopes.{Scope}
 use Rattle.kind_laws.specs.Standing.{Knows}
 use Rattle.world_laws.specs.Worlds.{FitsNames}
 use Rattle.world_laws.specs.Meanings.{ValuesMean, LeftsMean, SimpleMeans}

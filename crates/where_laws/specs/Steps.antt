@@ -14,7 +14,7 @@ use Rattle.array_meaning.specs.Stage1.{walk}
 use Rattle.array_meaning.specs.Stage2.{operands, array_of}
 use Rattle.array_meaning.specs.Assign.{Target, selection, movable, target, new_bounds, with_target}
 use Rattle.hlfir_meaning.specs.Steps as ops
-use Rattle.lower_assign.specs.declared.names.Names.{Names}
+use Rattle.lower_values.specs.declared.names.Names.{Names}
 use Rattle.world_laws.specs.Worlds.{FitsNames}
 use Rattle.world_laws.specs.Yields.{Yields, Reaches}
 

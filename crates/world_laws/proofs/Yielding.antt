@@ -5,8 +5,8 @@ use Rattle.hlfir_ops.specs.declared.op.ValueId.{ValueId}
 use Rattle.hlfir_ops.specs.declared.op.Op.{Op}
 use Rattle.hlfir_ops.specs.Trees.{op_of}
 use Rattle.hlfir_meaning.specs.Stage1.{subscript_numbers}
-use Rattle.lower_assign.specs.Scopes.{Scope}
-use Rattle.lower_assign.specs.Lowerings.{Lowering, ◌>>=◌, acting}
+use Rattle.lower_values.specs.Scopes.{Scope}
+use Rattle.lower_values.specs.Lowerings.{Lowering, ◌>>=◌, acting}
 use Rattle.lower_assign.specs.Statements.{all_yielded}
 use Rattle.value_laws.proofs.VectorNumbers.{subscripts-append, subscripts-op}
 

@@ -26,10 +26,10 @@ use Rattle.hlfir_meaning.specs.Environments.{scalar, Environment, of_variables}
 use Rattle.hlfir_meaning.specs.Stage1.{subscript_numbers}
 use Rattle.hlfir_meaning.specs.Statements.{simple}
 use Rattle.hlfir_meaning.specs.Meaning.{meaning}
-use Rattle.lower_assign.specs.declared.names.Names.{Names}
-use Rattle.lower_assign.specs.Scopes.{Scope}
-use Rattle.lower_assign.specs.Values.{value}
-use Rattle.lower_assign.specs.Lists.{values}
+use Rattle.lower_values.specs.declared.names.Names.{Names}
+use Rattle.lower_values.specs.Scopes.{Scope}
+use Rattle.lower_values.specs.Values.{value}
+use Rattle.lower_values.specs.Lists.{values}
 use Rattle.lower_assign.specs.Statements.{yielded, left_of, is_whole_allocatable}
 use Rattle.lower_constructs.specs.Modules.{statement, lowered}
 use Rattle.kind_laws.specs.Standing.{Knows}

@@ -12,10 +12,10 @@ use Rattle.array_meaning.specs.Stage1.{constant_of}
 use Rattle.array_meaning.specs.Assign.{is_name_in}
 use Rattle.hlfir_ops.specs.RulesValues.{elem_of, rank_of}
 use Rattle.hlfir_meaning.specs.Meaning.{is_truth}
-use Rattle.lower_assign.specs.declared.names.Names.{Names}
-use Rattle.lower_assign.specs.declared.names.Variable.{Variable}
-use Rattle.lower_assign.specs.declared.operand.Operand.{Operand}
-use Rattle.lower_assign.specs.References.{variable_of, truth_of}
+use Rattle.lower_values.specs.declared.names.Names.{Names}
+use Rattle.lower_values.specs.declared.names.Variable.{Variable}
+use Rattle.lower_values.specs.declared.operand.Operand.{Operand}
+use Rattle.lower_values.specs.References.{variable_of, truth_of}
 use Rattle.lower_assign.specs.Statements.{is_whole_allocatable}
 use Rattle.value_laws.specs.Variables.{Fits}
 use Rattle.value_laws.specs.Names.{ConstantsAgree}

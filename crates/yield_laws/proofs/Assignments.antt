@@ -16,8 +16,8 @@ use Rattle.hlfir_ops.specs.RulesValues.{Value, value_at, kind_of, elem_of, rank_
 use Rattle.hlfir_ops.specs.RulesRegions.{parts, parts_in, first_value, first_kind, yields_value, yields_target}
 use Rattle.hlfir_ops.specs.RulesStatements.{sides_agree, same_truth, yields_no_allocatable, regions_judged}
 use Rattle.hlfir_ops.specs.Rules.{yields_of, sides_of, realloc_of}
-use Rattle.lower_assign.specs.declared.names.Names.{Names}
-use Rattle.lower_assign.specs.declared.operand.Operand.{Operand}
+use Rattle.lower_values.specs.declared.names.Names.{Names}
+use Rattle.lower_values.specs.declared.operand.Operand.{Operand}
 use Rattle.lower_assign.specs.Known.{elem}
 use Rattle.lower_assign.specs.Statements.{left, is_whole_allocatable}
 use Rattle.yield_laws.proofs.Right.{IsRight, op-right}

@@ -27,11 +27,11 @@ use Rattle.hlfir_ops.specs.RulesValues.{Value, value_at, is_scalar, is_allocatab
 use Rattle.hlfir_ops.specs.RulesRegions.{yields_value, yields_truth, yields_header, yields_triplet}
 use Rattle.hlfir_ops.specs.RulesStatements.{yields_no_allocatable}
 use Rattle.hlfir_ops.specs.Rules.{yields_of, sides_of, realloc_of}
-use Rattle.lower_assign.specs.declared.operand.Operand.{Operand}
-use Rattle.lower_assign.specs.Scopes.{Scope, inside}
-use Rattle.lower_assign.specs.Lowerings.{Lowering, scoped, statement_of}
-use Rattle.lower_assign.specs.References.{declare_of}
-use Rattle.lower_assign.specs.Values.{value}
+use Rattle.lower_values.specs.declared.operand.Operand.{Operand}
+use Rattle.lower_values.specs.Scopes.{Scope, inside}
+use Rattle.lower_values.specs.Lowerings.{Lowering, scoped, statement_of}
+use Rattle.lower_values.specs.References.{declare_of}
+use Rattle.lower_values.specs.Values.{value}
 use Rattle.lower_assign.specs.Statements.{yielded, all_yielded}
 use Rattle.lower_constructs.specs.Modules.{triple, triples, forall_mask, third, elsewhere}
 use Rattle.kind_laws.specs.Standing.{Knows}

@@ -16,10 +16,10 @@ use Rattle.hlfir_ops.specs.Numbers.{numbers_of}
 use Rattle.hlfir_ops.specs.RulesValues.{Value, kind_of, kind_at, value_at, elem_of, rank_of, is_allocatable_declare}
 use Rattle.hlfir_ops.specs.RulesRegions.{is_apply, is_operation, is_value_op, applies, operates, works_on_elements, is_yield_element, front_of, parts, is_any_scalar, first_kind, yields_element}
 use Rattle.hlfir_ops.specs.RulesStatements.{no_allocatable}
-use Rattle.lower_assign.specs.declared.operand.Operand.{Operand}
-use Rattle.lower_assign.specs.Scopes.{Scope}
-use Rattle.lower_assign.specs.Lowerings.{Lowering, done, ◌>>=◌, giving, acting}
-use Rattle.lower_assign.specs.Operations.{values_of, rank_from, arranged, on_scalars, at_position, at_positions, element}
+use Rattle.lower_values.specs.declared.operand.Operand.{Operand}
+use Rattle.lower_values.specs.Scopes.{Scope}
+use Rattle.lower_values.specs.Lowerings.{Lowering, done, ◌>>=◌, giving, acting}
+use Rattle.lower_values.specs.Operations.{values_of, rank_from, arranged, on_scalars, at_position, at_positions, element}
 use Rattle.kind_laws.specs.Found.{Holds, Found}
 use Rattle.yield_laws.proofs.Right.{IsRight, AreRight}
 use Rattle.kind_laws.proofs.Finding.{holds_first, holds_after}

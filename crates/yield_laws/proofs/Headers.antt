@@ -20,12 +20,12 @@ use Rattle.hlfir_ops.specs.declared.op.ValueId.{ValueId}
 use Rattle.hlfir_ops.specs.RulesValues.{Value, is_scalar}
 use Rattle.hlfir_ops.specs.RulesRegions.{is_integer}
 use Rattle.hlfir_ops.specs.RulesStatements.{no_allocatable}
-use Rattle.lower_assign.specs.declared.operand.Operand.{Operand}
-use Rattle.lower_assign.specs.Scopes.{Scope}
-use Rattle.lower_assign.specs.Lowerings.{Lowering, done, ◌>>=◌, giving}
-use Rattle.lower_assign.specs.Operations.{constant}
-use Rattle.lower_assign.specs.Values.{value}
-use Rattle.lower_assign.specs.Lists.{stride}
+use Rattle.lower_values.specs.declared.operand.Operand.{Operand}
+use Rattle.lower_values.specs.Scopes.{Scope}
+use Rattle.lower_values.specs.Lowerings.{Lowering, done, ◌>>=◌, giving}
+use Rattle.lower_values.specs.Operations.{constant}
+use Rattle.lower_values.specs.Values.{value}
+use Rattle.lower_values.specs.Lists.{stride}
 use Rattle.lower_assign.specs.Statements.{bounds_of, all_bounds}
 use Rattle.lower_constructs.specs.Modules.{triple, triples}
 use Rattle.kind_laws.specs.Standing.{Knows}

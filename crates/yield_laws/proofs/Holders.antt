@@ -11,8 +11,8 @@ use Rattle.hlfir_ops.specs.Numbers.{names_in, own_numbers, numbers_of}
 use Rattle.hlfir_ops.specs.RulesValues.{Value}
 use Rattle.hlfir_ops.specs.RulesRegions.{is_yield, is_yield_element, parts_of, parts}
 use Rattle.hlfir_ops.specs.RulesStatements.{no_allocatable}
-use Rattle.lower_assign.specs.Scopes.{Scope, inside}
-use Rattle.lower_assign.specs.Lowerings.{Lowering, done, ◌>>=◌, in_turn, statement_of}
+use Rattle.lower_values.specs.Scopes.{Scope, inside}
+use Rattle.lower_values.specs.Lowerings.{Lowering, done, ◌>>=◌, in_turn, statement_of}
 use Rattle.kind_laws.specs.Found.{Holds, HoldsNames, RegionsHeld}
 use Rattle.kind_laws.proofs.ScopesFound.{regions_are_held}
 use Rattle.yield_laws.proofs.Right.{IsRight, AreRight}

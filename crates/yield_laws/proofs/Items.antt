@@ -19,13 +19,13 @@ use Rattle.ws_sema.specs.Statements.{has_vector}
 use Rattle.hlfir_ops.specs.declared.what.What.TheVariants as what
 use Rattle.hlfir_ops.specs.RulesValues.{Value, Source, Declares, Other, is_allocatable, is_vector, value_at, elem_of, rank_of, is_vector_designate, has_vector_source}
 use Rattle.hlfir_ops.specs.RulesForms.{section_rank}
-use Rattle.lower_assign.specs.declared.operand.Operand.{Operand}
-use Rattle.lower_assign.specs.declared.operand.Subscript.{Subscript}
-use Rattle.lower_assign.specs.declared.operand.Subscript.TheVariants.{One, Range, Vector}
-use Rattle.lower_assign.specs.Scopes.{Scope}
-use Rattle.lower_assign.specs.Lowerings.{done, ◌>>=◌, giving}
-use Rattle.lower_assign.specs.References.{subscript_of, sub_kind, part_kind, designated}
-use Rattle.lower_assign.specs.Values.{value, subscripts, subscript}
+use Rattle.lower_values.specs.declared.operand.Operand.{Operand}
+use Rattle.lower_values.specs.declared.operand.Subscript.{Subscript}
+use Rattle.lower_values.specs.declared.operand.Subscript.TheVariants.{One, Range, Vector}
+use Rattle.lower_values.specs.Scopes.{Scope}
+use Rattle.lower_values.specs.Lowerings.{done, ◌>>=◌, giving}
+use Rattle.lower_values.specs.References.{subscript_of, sub_kind, part_kind, designated}
+use Rattle.lower_values.specs.Values.{value, subscripts, subscript}
 use Rattle.lower_assign.specs.Statements.{left_of}
 use Rattle.kind_laws.specs.Standing.{Knows}
 use Rattle.kind_laws.specs.Found.{Holds, ScopeIsFound, IsLeftOf}

@@ -15,11 +15,11 @@ use Rattle.ws_sema.specs.Statements.{left_faults, left_type}
 use Rattle.hlfir_ops.specs.declared.kinds.ValueKind.{ValueKind}
 use Rattle.hlfir_ops.specs.declared.kinds.ValueKind.TheVariants as kind
 use Rattle.hlfir_ops.specs.RulesValues.{Value, Source, Declares, Designates, Other, is_declares, is_designates, is_allocatable, is_allocatable_declare}
-use Rattle.lower_assign.specs.declared.names.Names.{Names}
-use Rattle.lower_assign.specs.declared.operand.Operand.{Operand}
-use Rattle.lower_assign.specs.Scopes.{Scope}
-use Rattle.lower_assign.specs.Lowerings.{done, scoped, giving}
-use Rattle.lower_assign.specs.References.{variable_of, or_nothing, declare_of, box_of, boxed}
+use Rattle.lower_values.specs.declared.names.Names.{Names}
+use Rattle.lower_values.specs.declared.operand.Operand.{Operand}
+use Rattle.lower_values.specs.Scopes.{Scope}
+use Rattle.lower_values.specs.Lowerings.{done, scoped, giving}
+use Rattle.lower_values.specs.References.{variable_of, or_nothing, declare_of, box_of, boxed}
 use Rattle.lower_assign.specs.Statements.{whole_left, left_of, is_whole_allocatable}
 use Rattle.kind_laws.specs.Standing.{EntryIsKnown, NameIsKnown, Knows}
 use Rattle.kind_laws.specs.Found.{Holds, ScopeIsFound, IsLeftOf}

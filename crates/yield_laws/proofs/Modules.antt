@@ -12,9 +12,9 @@ use Rattle.hlfir_ops.specs.Numbers.{numbers_of}
 use Rattle.hlfir_ops.specs.RulesValues.{Value, values_of}
 use Rattle.hlfir_ops.specs.RulesPlaces.{Site, sites_of, outermost, module_sites}
 use Rattle.hlfir_ops.specs.Rules.{facts_of, yields_of, sides_of, realloc_of, declares_fit}
-use Rattle.lower_assign.specs.Scopes.{Scope, scope_at}
+use Rattle.lower_values.specs.Scopes.{Scope, scope_at}
 use Rattle.lower_assign.specs.Known.{names_of, variable_decls, numbered}
-use Rattle.lower_assign.specs.Lowerings.{◌>>=◌, in_turn}
+use Rattle.lower_values.specs.Lowerings.{◌>>=◌, in_turn}
 use Rattle.lower_constructs.specs.Modules.{declaration, statement_list, lowered}
 use Rattle.lower_constructs.specs.Sites.{Test, passes, EveryOpPasses}
 use Rattle.kind_laws.specs.Found.{Holds, ScopeIsFound}

@@ -18,11 +18,11 @@ use Rattle.hlfir_ops.specs.declared.what.BoundWord.{BoundWord}
 use Rattle.hlfir_ops.specs.declared.what.What.TheVariants as what
 use Rattle.hlfir_ops.specs.declared.op.ValueId.{ValueId}
 use Rattle.hlfir_ops.specs.RulesValues.{Value, Declares, Other, value_at, is_allocatable}
-use Rattle.lower_assign.specs.declared.operand.Operand.{Operand}
-use Rattle.lower_assign.specs.Scopes.{Scope, index_of}
-use Rattle.lower_assign.specs.Lowerings.{Lowering}
-use Rattle.lower_assign.specs.References.{variable_of, or_nothing, declare_of, box_of, boxed, reference, load_of, loaded, truth_of, variable_or_truth, index_or_other, named, bound}
-use Rattle.lower_assign.specs.Values.{constant_or, folded}
+use Rattle.lower_values.specs.declared.operand.Operand.{Operand}
+use Rattle.lower_values.specs.Scopes.{Scope, index_of}
+use Rattle.lower_values.specs.Lowerings.{Lowering}
+use Rattle.lower_values.specs.References.{variable_of, or_nothing, declare_of, box_of, boxed, reference, load_of, loaded, truth_of, variable_or_truth, index_or_other, named, bound}
+use Rattle.lower_values.specs.Values.{constant_or, folded}
 use Rattle.kind_laws.specs.Standing.{FitsEntry, EntryIsKnown, NameIsKnown}
 use Rattle.kind_laws.specs.Found.{Found, ScopeIsFound}
 use Rattle.kind_laws.proofs.NoFaults.{none_first, none_after, not_broken}

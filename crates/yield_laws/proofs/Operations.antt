@@ -22,10 +22,10 @@ use Rattle.hlfir_ops.specs.RulesValues.{Value}
 use Rattle.hlfir_ops.specs.RulesForms.{result_elem, total_elem}
 use Rattle.hlfir_ops.specs.RulesRegions.{is_operation, yields_element}
 use Rattle.hlfir_ops.specs.Rules.{yields_of, sides_of, realloc_of}
-use Rattle.lower_assign.specs.declared.operand.Operand.{Operand}
-use Rattle.lower_assign.specs.Scopes.{Scope, inside}
-use Rattle.lower_assign.specs.Lowerings.{Lowering, giving_by}
-use Rattle.lower_assign.specs.Operations.{constant, values_of, rank_from, arranged, on_scalars, element, at_each, operation, binary_operation, value_of_whole, in_parentheses, unary_operation, reduction_of, what_of, call_elem, first_elem, total_or, call_on, vector}
+use Rattle.lower_values.specs.declared.operand.Operand.{Operand}
+use Rattle.lower_values.specs.Scopes.{Scope, inside}
+use Rattle.lower_values.specs.Lowerings.{Lowering, giving_by}
+use Rattle.lower_values.specs.Operations.{constant, values_of, rank_from, arranged, on_scalars, element, at_each, operation, binary_operation, value_of_whole, in_parentheses, unary_operation, reduction_of, what_of, call_elem, first_elem, total_or, call_on, vector}
 use Rattle.kind_laws.specs.Found.{RegionsHeld}
 use Rattle.kind_laws.proofs.ScopesFound.{regions_are_held}
 use Rattle.yield_laws.proofs.Right.{IsRight, op-right}

@@ -21,11 +21,11 @@ use Rattle.hlfir_ops.specs.Numbers.{names_in}
 use Rattle.hlfir_ops.specs.RulesValues.{Value, value_at, kind_of, is_target, is_allocatable_declare, is_vector_designate}
 use Rattle.hlfir_ops.specs.RulesRegions.{parts, first_value, first_kind, yields_pairs, yields_item}
 use Rattle.hlfir_ops.specs.Rules.{yields_of, sides_of, realloc_of}
-use Rattle.lower_assign.specs.declared.operand.Operand.{Operand}
-use Rattle.lower_assign.specs.Scopes.{Scope, inside}
-use Rattle.lower_assign.specs.Lowerings.{statement_of}
-use Rattle.lower_assign.specs.References.{declare_of}
-use Rattle.lower_assign.specs.Values.{value}
+use Rattle.lower_values.specs.declared.operand.Operand.{Operand}
+use Rattle.lower_values.specs.Scopes.{Scope, inside}
+use Rattle.lower_values.specs.Lowerings.{statement_of}
+use Rattle.lower_values.specs.References.{declare_of}
+use Rattle.lower_values.specs.Values.{value}
 use Rattle.lower_assign.specs.Statements.{yielded, all_yielded, left_of, left, item, is_whole_allocatable, assignment, all_bounds, allocation, deallocation, reading, each_item}
 use Rattle.kind_laws.specs.Standing.{Knows}
 use Rattle.kind_laws.specs.Found.{ScopeIsFound}

@@ -7,7 +7,7 @@ use Rattle.ws_types.specs.Names.{Name, standing_of}
 use Rattle.ws_sema.specs.declared.within.Within.{Within}
 use Rattle.ws_sema.specs.Statements.{is_inside, is_masked}
 use Rattle.hlfir_ops.specs.RulesValues.{Value}
-use Rattle.lower_assign.specs.Scopes.{Scope}
+use Rattle.lower_values.specs.Scopes.{Scope}
 use Rattle.kind_laws.specs.Standing.{NameIsKnown, Knows}
 use Rattle.kind_laws.specs.Found.{ScopeIsFound}
 

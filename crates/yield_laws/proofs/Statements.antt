@@ -21,8 +21,8 @@ use Rattle.ws_sema.specs.declared.within.Within.TheVariants as within
 use Rattle.ws_sema.specs.Statements.{is_inside, is_masked, is_outside, under, mask_rank, else_control, with_active, block_faults, body_faults, elses_faults, stmts_faults}
 use Rattle.hlfir_ops.specs.declared.what.What.TheVariants as what
 use Rattle.hlfir_ops.specs.RulesValues.{Value}
-use Rattle.lower_assign.specs.Scopes.{Scope, inside}
-use Rattle.lower_assign.specs.Lowerings.{◌>>◌}
+use Rattle.lower_values.specs.Scopes.{Scope, inside}
+use Rattle.lower_values.specs.Lowerings.{◌>>◌}
 use Rattle.lower_constructs.specs.Modules.{forall_mask, elsewhere, statement, statements, elsewheres, statement_list}
 use Rattle.kind_laws.specs.Standing.{Knows}
 use Rattle.kind_laws.specs.Found.{ScopeIsFound}

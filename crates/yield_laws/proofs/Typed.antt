@@ -10,10 +10,10 @@ use Rattle.hlfir_ops.specs.declared.kinds.Elem.TheVariants.{I32}
 use Rattle.hlfir_ops.specs.declared.kinds.ValueKind.{ValueKind}
 use Rattle.hlfir_ops.specs.declared.kinds.ValueKind.TheVariants.{Scalar, Place, Declared, Allocatable, Section, Array}
 use Rattle.hlfir_ops.specs.RulesValues.{Value, elem_of, rank_of, is_place, is_scalar, same_elem}
-use Rattle.lower_assign.specs.declared.operand.Operand.{Operand}
+use Rattle.lower_values.specs.declared.operand.Operand.{Operand}
 use Rattle.lower_assign.specs.Known.{elem}
-use Rattle.lower_assign.specs.Scopes.{Scope}
-use Rattle.lower_assign.specs.Values.{value}
+use Rattle.lower_values.specs.Scopes.{Scope}
+use Rattle.lower_values.specs.Values.{value}
 use Rattle.kind_laws.specs.Standing.{Knows}
 use Rattle.kind_laws.specs.Found.{ScopeIsFound}
 use Rattle.kind_laws.specs.Laws.{HasType}

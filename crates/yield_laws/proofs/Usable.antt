@@ -17,8 +17,8 @@ use Rattle.hlfir_ops.specs.RulesPlaces.{masks}
 use Rattle.hlfir_ops.specs.RulesRegions.{is_value_op, gives_value}
 use Rattle.hlfir_ops.specs.RulesStatements.{is_declare, may_take_allocatable, no_allocatable, yields_no_allocatable, regions_judged}
 use Rattle.hlfir_ops.specs.Rules.{yields_of, sides_of, realloc_of}
-use Rattle.lower_assign.specs.declared.operand.Operand.{Operand}
-use Rattle.lower_assign.specs.Operations.{values_of}
+use Rattle.lower_values.specs.declared.operand.Operand.{Operand}
+use Rattle.lower_values.specs.Operations.{values_of}
 use Rattle.kind_laws.specs.Found.{Holds, Found}
 use Rattle.yield_laws.proofs.Right.{IsRight, AreRight, op-right}
 use Rattle.kind_laws.proofs.Finding.{own_value}

@@ -29,14 +29,14 @@ use Rattle.hlfir_ops.specs.declared.what.What.TheVariants as what
 use Rattle.hlfir_ops.specs.RulesValues.{Value, elem_of, rank_of}
 use Rattle.hlfir_ops.specs.RulesForms.{section_rank}
 use Rattle.hlfir_ops.specs.RulesStatements.{no_allocatable}
-use Rattle.lower_assign.specs.declared.operand.Operand.{Operand}
-use Rattle.lower_assign.specs.declared.operand.Subscript.{Subscript}
-use Rattle.lower_assign.specs.declared.operand.Subscript.TheVariants.{One, Range, Vector}
-use Rattle.lower_assign.specs.Scopes.{Scope}
-use Rattle.lower_assign.specs.Lowerings.{Lowering, done, ◌>>=◌, scoped}
-use Rattle.lower_assign.specs.Operations.{constant, binary_of, binary_operation, in_parentheses, unary_operation, joined, call_on, vector}
-use Rattle.lower_assign.specs.References.{declare_of, reference, loaded, named, subscript_of, sub_kind, sub_values, bound, part_kind, designated, dimension_in, dimension, bound_word, bound_or_size, is_allocated, inquiry_of, inquiry}
-use Rattle.lower_assign.specs.Values.{part_of, called, value, values, nested, subscripts, subscript, given_or}
+use Rattle.lower_values.specs.declared.operand.Operand.{Operand}
+use Rattle.lower_values.specs.declared.operand.Subscript.{Subscript}
+use Rattle.lower_values.specs.declared.operand.Subscript.TheVariants.{One, Range, Vector}
+use Rattle.lower_values.specs.Scopes.{Scope}
+use Rattle.lower_values.specs.Lowerings.{Lowering, done, ◌>>=◌, scoped}
+use Rattle.lower_values.specs.Operations.{constant, binary_of, binary_operation, in_parentheses, unary_operation, joined, call_on, vector}
+use Rattle.lower_values.specs.References.{declare_of, reference, loaded, named, subscript_of, sub_kind, sub_values, bound, part_kind, designated, dimension_in, dimension, bound_word, bound_or_size, is_allocated, inquiry_of, inquiry}
+use Rattle.lower_values.specs.Values.{part_of, called, value, values, nested, subscripts, subscript, given_or}
 use Rattle.kind_laws.specs.Standing.{Knows}
 use Rattle.kind_laws.specs.Found.{ScopeIsFound}
 use Rattle.kind_laws.proofs.NoFaults.{allowed, not_false, none_first, none_after, not_broken, left_false, right_false}

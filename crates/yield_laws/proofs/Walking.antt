@@ -10,8 +10,8 @@ use Rattle.hlfir_ops.specs.Numbers.{numbers_of}
 use Rattle.hlfir_ops.specs.RulesValues.{Value}
 use Rattle.hlfir_ops.specs.RulesRegions.{is_value_op}
 use Rattle.hlfir_ops.specs.RulesStatements.{may_take_allocatable, no_allocatable}
-use Rattle.lower_assign.specs.Scopes.{Scope}
-use Rattle.lower_assign.specs.Lowerings.{Lowering, done, ◌>>=◌, scoped, giving}
+use Rattle.lower_values.specs.Scopes.{Scope}
+use Rattle.lower_values.specs.Lowerings.{Lowering, done, ◌>>=◌, scoped, giving}
 use Rattle.kind_laws.specs.Found.{Holds}
 use Rattle.kind_laws.proofs.Finding.{holds_first, holds_after}
 use Rattle.yield_laws.proofs.Usable.{IsUsable, IsValue, is_solid, is_plain, value-op, given-usable}

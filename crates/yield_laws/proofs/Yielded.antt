@@ -11,9 +11,9 @@ use Rattle.hlfir_ops.specs.Trees.{op_of}
 use Rattle.hlfir_ops.specs.RulesValues.{Value, is_place, is_scalar}
 use Rattle.hlfir_ops.specs.RulesRegions.{gives_value, parts, first_kind, yields, yields_one, yields_value, yields_truth, is_integer, yields_integers}
 use Rattle.hlfir_ops.specs.RulesStatements.{no_allocatable}
-use Rattle.lower_assign.specs.declared.operand.Operand.{Operand}
-use Rattle.lower_assign.specs.Scopes.{Scope}
-use Rattle.lower_assign.specs.Lowerings.{Lowering, ◌>>=◌, acting}
+use Rattle.lower_values.specs.declared.operand.Operand.{Operand}
+use Rattle.lower_values.specs.Scopes.{Scope}
+use Rattle.lower_values.specs.Lowerings.{Lowering, ◌>>=◌, acting}
 use Rattle.lower_assign.specs.Statements.{yielded, all_yielded}
 use Rattle.kind_laws.specs.Found.{Holds, Found}
 use Rattle.yield_laws.proofs.Right.{IsRight, AreRight}

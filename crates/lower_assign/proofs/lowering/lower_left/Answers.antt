@@ -1,8 +1,8 @@
 use Rattle.std.proofs.Common.{subst}
-use Rattle.lower_assign.specs.declared.names.Names.{Names}
-use Rattle.lower_assign.specs.Lowerings.{Appends}
+use Rattle.lower_values.specs.declared.names.Names.{Names}
+use Rattle.lower_values.specs.Lowerings.{Appends}
 use Rattle.lower_assign.specs.Statements.{number_of, left}
-use Rattle.lower_assign.proofs.Appended.{appends-map}
+use Rattle.lower_values.proofs.Appended.{appends-map}
 use Rattle.lower_assign.proofs.lowering.lower_left.Goals as goal
 
 pub returns : goal.returns

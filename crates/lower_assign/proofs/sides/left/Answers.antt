@@ -1,6 +1,6 @@
 use Rattle.std.proofs.Common.{refl, ap}
 use Rattle.lower_assign.specs.Statements.{left, left_of}
-use Rattle.lower_assign.proofs.Appended.{appends-by, appends-scoped, if-map}
+use Rattle.lower_values.proofs.Appended.{appends-by, appends-scoped, if-map}
 use Rattle.lower_assign.proofs.sides.left.Goals as goal
 
 pub returns : goal.returns

@@ -1,9 +1,9 @@
 use Rattle.std.proofs.Common.{refl, sym, ap, ◌∙◌}
-use Rattle.lower_assign.specs.References.{nothing, declare_of}
+use Rattle.lower_values.specs.References.{nothing, declare_of}
 use Rattle.lower_assign.specs.Statements.{left_of, whole_left}
-use Rattle.lower_assign.specs.Lists as lists
-use Rattle.lower_assign.proofs.Forms.{left_of-part, left_of-other}
-use Rattle.lower_assign.proofs.Appended.{appends-by, appends-done, appends-scoped, if-map}
+use Rattle.lower_values.specs.Lists as lists
+use Rattle.lower_assign.proofs.Lefts.{left_of-part, left_of-other}
+use Rattle.lower_values.proofs.Appended.{appends-by, appends-done, appends-scoped, if-map}
 use Rattle.lower_assign.proofs.sides.left_of.Goals as goal
 
 pub returns-in-Named : goal.returns-in-Named

@@ -1,6 +1,6 @@
 use Rattle.std.proofs.Common.{refl, sym, ap}
 use Rattle.lower_assign.specs.Statements.{whole_left}
-use Rattle.lower_assign.proofs.Appended.{appends-by, appends-done, if-by}
+use Rattle.lower_values.proofs.Appended.{appends-by, appends-done, if-by}
 use Rattle.lower_assign.proofs.sides.whole_left.Goals as goal
 
 pub returns-then-by_box : goal.returns-then-by_box

@@ -1,8 +1,8 @@
 use Rattle.std.proofs.Common.{[], ◌∷◌}
 use Rattle.hlfir_ops.specs.declared.what.What.TheVariants.{Yield}
-use Rattle.lower_assign.specs.Lowerings.{acting}
+use Rattle.lower_values.specs.Lowerings.{acting}
 use Rattle.lower_assign.specs.Statements.{item}
-use Rattle.lower_assign.proofs.Appended.{appends-next, if-map}
+use Rattle.lower_values.proofs.Appended.{appends-next, if-map}
 use Rattle.lower_assign.proofs.sides.yield_item.Goals as goal
 
 pub returns : goal.returns

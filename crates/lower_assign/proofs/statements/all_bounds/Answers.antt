@@ -1,8 +1,8 @@
 use Rattle.std.proofs.Common.{◌+◌, drop, arith}
 use Rattle.ws_types.proofs.Appended.{front}
 use Rattle.lower_assign.specs.Statements.{all_bounds}
-use Rattle.lower_assign.proofs.Listed.{bounds-none, bounds-more}
-use Rattle.lower_assign.proofs.Turns.{makes-next, makes-done}
+use Rattle.lower_assign.proofs.BoundsListed.{bounds-none, bounds-more}
+use Rattle.lower_values.proofs.Turns.{makes-next, makes-done}
 use Rattle.lower_assign.proofs.statements.all_bounds.Goals as goal
 
 pub each-preserved : goal.each-preserved

@@ -1,5 +1,5 @@
 use Rattle.lower_assign.specs.Statements.{all_bounds}
-use Rattle.lower_assign.proofs.Turns.{MakesAll}
+use Rattle.lower_values.proofs.Turns.{MakesAll}
 use Rattle.lower_assign.proofs.statements.all_bounds.Given as goal
 
 abbrev pub invariant-each : goal.invariant-each

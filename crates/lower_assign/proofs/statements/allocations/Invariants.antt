@@ -1,7 +1,7 @@
 use Rattle.std.proofs.Common.{nat_lt}
-use Rattle.lower_assign.specs.Lowerings.{in_turn}
+use Rattle.lower_values.specs.Lowerings.{in_turn}
 use Rattle.lower_assign.specs.Statements.{allocation}
-use Rattle.lower_assign.proofs.Turns.{LowersAll}
+use Rattle.lower_values.proofs.Turns.{LowersAll}
 use Rattle.lower_assign.proofs.statements.allocations.Given as goal
 
 abbrev pub invariant-each : goal.invariant-each

@@ -1,10 +1,10 @@
-use Rattle.std.proofs.Common.{refl, sym, ap, ◌∙◌, not, ◌&&◌, [], ◌∷◌, None}
+use Rattle.std.proofs.Common.{refl, ap, ◌∙◌, not, ◌&&◌, [], ◌∷◌, None}
 use Rattle.hlfir_ops.specs.declared.what.What.TheVariants.{Assign}
-use Rattle.lower_assign.specs.Lowerings.{statement_of, opened}
-use Rattle.lower_assign.specs.Values.{value}
+use Rattle.lower_values.specs.Lowerings.{statement_of, opened}
+use Rattle.lower_values.specs.Values.{value}
 use Rattle.lower_assign.specs.Statements.{assignment, yielded, left, is_whole_allocatable}
-use Rattle.lower_assign.proofs.Appended.{appends-by, appends-scoped}
-use Rattle.lower_assign.proofs.Holding.{holds-none, holds-next, appends-statement}
+use Rattle.lower_values.proofs.Appended.{appends-by, appends-scoped}
+use Rattle.lower_values.proofs.Holding.{holds-none, holds-next, appends-statement}
 use Rattle.lower_assign.proofs.statements.assignment.Goals as goal
 
 pub returns : goal.returns

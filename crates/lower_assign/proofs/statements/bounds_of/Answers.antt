@@ -1,10 +1,10 @@
-use Rattle.std.proofs.Common.{refl, sym, ap, ◌∙◌, [], ◌∷◌, pos}
+use Rattle.std.proofs.Common.{sym, ap, [], ◌∷◌, pos}
 use Rattle.hlfir_ops.specs.declared.kinds.Elem.TheVariants.{I32}
-use Rattle.lower_assign.specs.Lowerings.{done, ◌>>=◌}
-use Rattle.lower_assign.specs.Operations.{constant}
-use Rattle.lower_assign.specs.Values.{value}
+use Rattle.lower_values.specs.Lowerings.{done, ◌>>=◌}
+use Rattle.lower_values.specs.Operations.{constant}
+use Rattle.lower_values.specs.Values.{value}
 use Rattle.lower_assign.specs.Statements.{bounds_of}
-use Rattle.lower_assign.proofs.Appended.{appends-by, appends-done, appends-next, appends-map, if-map}
+use Rattle.lower_values.proofs.Appended.{appends-by, appends-done, appends-next, appends-map, if-map}
 use Rattle.lower_assign.proofs.statements.bounds_of.Goals as goal
 
 pub returns-in_ok-y-in-Upper : goal.returns-in_ok-y-in-Upper

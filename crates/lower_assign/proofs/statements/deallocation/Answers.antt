@@ -1,10 +1,10 @@
-use Rattle.std.proofs.Common.{refl, ap, ◌∙◌, [], ◌∷◌, None}
+use Rattle.std.proofs.Common.{ap, ◌∙◌, [], ◌∷◌, None}
 use Rattle.hlfir_ops.specs.declared.what.What.TheVariants.{Freemem}
-use Rattle.lower_assign.specs.Lowerings.{statement_of, opened}
-use Rattle.lower_assign.specs.References.{declare_of}
+use Rattle.lower_values.specs.Lowerings.{statement_of, opened}
+use Rattle.lower_values.specs.References.{declare_of}
 use Rattle.lower_assign.specs.Statements.{deallocation}
-use Rattle.lower_assign.proofs.Appended.{appends-by, appends-scoped}
-use Rattle.lower_assign.proofs.Holding.{holds-none, appends-statement}
+use Rattle.lower_values.proofs.Appended.{appends-scoped}
+use Rattle.lower_values.proofs.Holding.{holds-none, appends-statement}
 use Rattle.lower_assign.proofs.statements.deallocation.Goals as goal
 
 pub returns : goal.returns

@@ -1,8 +1,8 @@
 use Rattle.std.proofs.Common.{ap, ◌∙◌, [], None}
 use Rattle.hlfir_ops.specs.declared.what.What.TheVariants.{Read}
-use Rattle.lower_assign.specs.Lowerings.{opened}
+use Rattle.lower_values.specs.Lowerings.{opened}
 use Rattle.lower_assign.specs.Statements.{reading}
-use Rattle.lower_assign.proofs.Holding.{holds-none, holds-next, appends-statement}
+use Rattle.lower_values.proofs.Holding.{holds-none, holds-next, appends-statement}
 use Rattle.lower_assign.proofs.statements.reading.Goals as goal
 
 pub returns : goal.returns

@@ -2,9 +2,9 @@ use Rattle.std.proofs.Common.{ℕ, nat_lt, ◌+◌, drop, arith, add-one}
 use Rattle.std.specs.Prelude.{⊤}
 use Rattle.ws_tree.specs.declared.expr.Expr.{Expr}
 use Rattle.ws_types.proofs.Appended.{front}
-use Rattle.lower_assign.specs.Lowerings.{Lowering, in_turn}
+use Rattle.lower_values.specs.Lowerings.{Lowering, in_turn}
 use Rattle.lower_assign.specs.Statements.{reading}
-use Rattle.lower_assign.proofs.Turns.{lowers-next, lowers-done, in_turn-none, in_turn-more}
+use Rattle.lower_values.proofs.Turns.{lowers-next, lowers-done, in_turn-none, in_turn-more}
 use Rattle.lower_assign.proofs.statements.readings.Goals as goal
 
 pub each-preserved : goal.each-preserved

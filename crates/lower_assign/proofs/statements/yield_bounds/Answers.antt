@@ -1,7 +1,7 @@
 use Rattle.hlfir_ops.specs.declared.what.What.TheVariants.{Yield}
-use Rattle.lower_assign.specs.Lowerings.{acting}
+use Rattle.lower_values.specs.Lowerings.{acting}
 use Rattle.lower_assign.specs.Statements.{all_bounds}
-use Rattle.lower_assign.proofs.Appended.{appends-next, if-map}
+use Rattle.lower_values.proofs.Appended.{appends-next, if-map}
 use Rattle.lower_assign.proofs.statements.yield_bounds.Goals as goal
 
 pub returns : goal.returns

@@ -1,12 +1,12 @@
 use Rattle.std.proofs.Common.{arith, lit<, refl, sym, ap, subst, ◌<◌, drop, ◌+◌, [], ◌∷◌, length, map}
 use Rattle.std.specs.Prelude.{List, ⊤}
 use Rattle.hlfir_ops.specs.declared.what.What.TheVariants as what
-use Rattle.lower_assign.specs.Lowerings.{Lowering, statement_of}
-use Rattle.lower_assign.specs.References.{declare_of}
+use Rattle.lower_values.specs.Lowerings.{Lowering, statement_of}
+use Rattle.lower_values.specs.References.{declare_of}
 use Rattle.lower_assign.specs.Statements.{yielded, all_yielded}
-use Rattle.lower_assign.specs.Values.{value}
-use Rattle.lower_assign.proofs.Appended.{appends-by, if-map}
-use Rattle.lower_assign.proofs.Turns.{lowers-next, lowers-done}
+use Rattle.lower_values.specs.Values.{value}
+use Rattle.lower_values.proofs.Appended.{appends-by, if-map}
+use Rattle.lower_values.proofs.Turns.{lowers-next, lowers-done}
 use Rattle.ws_tree.specs.declared.stmt.Else.{out-Else}
 use Rattle.lower_constructs.specs.Filled.{Fills}
 use Rattle.lower_constructs.specs.Modules.{triple, triples, forall_mask, statement, statement_list}

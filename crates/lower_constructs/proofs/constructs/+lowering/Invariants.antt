@@ -1,5 +1,5 @@
 use Rattle.std.proofs.Common.{◌+◌, ◌*◌}
-use Rattle.lower_assign.proofs.Turns.{LowersAll}
+use Rattle.lower_values.proofs.Turns.{LowersAll}
 use Rattle.lower_constructs.specs.Modules.{statement_list}
 use Rattle.lower_constructs.specs.Lists.{else_list}
 use Rattle.lower_constructs.proofs.Weights.{weight, stmts_weight, else_weight, elses_weight}

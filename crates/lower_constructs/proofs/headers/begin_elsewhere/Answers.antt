@@ -1,7 +1,7 @@
 use Rattle.std.proofs.Common.{refl, sym, ap, ◌∙◌, []}
 use Rattle.hlfir_ops.specs.declared.what.What.TheVariants as what
-use Rattle.lower_assign.specs.Lowerings.{statement_of}
-use Rattle.lower_assign.proofs.Appended.{appends-by, if-map}
+use Rattle.lower_values.specs.Lowerings.{statement_of}
+use Rattle.lower_values.proofs.Appended.{appends-by, if-map}
 use Rattle.lower_constructs.specs.Lists.{mask_of}
 use Rattle.lower_constructs.proofs.headers.begin_elsewhere.Goals as goal
 

@@ -1,8 +1,8 @@
 use Rattle.std.proofs.Common.{refl, ap, ◌∙◌, [], ◌∷◌}
 use Rattle.hlfir_ops.specs.declared.what.What.TheVariants as what
-use Rattle.lower_assign.specs.Lowerings.{statement_of}
+use Rattle.lower_values.specs.Lowerings.{statement_of}
 use Rattle.lower_assign.specs.Statements.{all_yielded}
-use Rattle.lower_assign.proofs.Appended.{appends-by}
+use Rattle.lower_values.proofs.Appended.{appends-by}
 use Rattle.lower_constructs.specs.Modules.{triples}
 use Rattle.lower_constructs.proofs.Filling.{stands, inside, fills-one, yields-all}
 use Rattle.lower_constructs.proofs.headers.begin_forall.Goals as goal

@@ -1,6 +1,6 @@
 use Rattle.std.proofs.Common.{refl, ap, []}
-use Rattle.lower_assign.specs.Lowerings.{statement_of}
-use Rattle.lower_assign.proofs.Appended.{appends-by, if-map}
+use Rattle.lower_values.specs.Lowerings.{statement_of}
+use Rattle.lower_values.proofs.Appended.{appends-by, if-map}
 use Rattle.lower_constructs.proofs.Filling.{stands}
 use Rattle.lower_constructs.proofs.headers.begin_masked.Goals as goal
 

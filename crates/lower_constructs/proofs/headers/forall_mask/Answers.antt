@@ -1,5 +1,5 @@
 use Rattle.std.proofs.Common.{refl, sym, ap}
-use Rattle.lower_assign.proofs.Appended.{appends-by, if-map}
+use Rattle.lower_values.proofs.Appended.{appends-by, if-map}
 use Rattle.lower_constructs.specs.Modules.{forall_mask}
 use Rattle.lower_constructs.proofs.Parts.{forall_mask-none, forall_mask-some}
 use Rattle.lower_constructs.proofs.headers.forall_mask.Goals as goal

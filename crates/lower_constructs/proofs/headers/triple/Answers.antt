@@ -1,5 +1,5 @@
 use Rattle.std.proofs.Common.{refl, sym}
-use Rattle.lower_assign.proofs.Appended.{appends-by, if-map}
+use Rattle.lower_values.proofs.Appended.{appends-by, if-map}
 use Rattle.lower_constructs.proofs.Parts.{triple-is}
 use Rattle.lower_constructs.proofs.headers.triple.Goals as goal
 

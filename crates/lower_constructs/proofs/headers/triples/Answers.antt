@@ -1,5 +1,5 @@
 use Rattle.std.proofs.Common.{arith, drop, ◌+◌}
-use Rattle.lower_assign.proofs.Turns.{makes-next, makes-done}
+use Rattle.lower_values.proofs.Turns.{makes-next, makes-done}
 use Rattle.lower_constructs.specs.Modules.{triples}
 use Rattle.lower_constructs.proofs.Blocks.{front-item}
 use Rattle.lower_constructs.proofs.Parts.{triples-none, triples-more}

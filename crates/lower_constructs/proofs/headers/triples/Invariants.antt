@@ -1,4 +1,4 @@
-use Rattle.lower_assign.proofs.Turns.{MakesAll}
+use Rattle.lower_values.proofs.Turns.{MakesAll}
 use Rattle.lower_constructs.specs.Modules.{triples}
 use Rattle.lower_constructs.proofs.headers.triples.Given as goal
 

@@ -1,7 +1,7 @@
 use Rattle.std.proofs.Common.{refl, ap, ◌∙◌}
 use Rattle.hlfir_ops.specs.declared.what.What.TheVariants as what
-use Rattle.lower_assign.specs.Lowerings.{giving}
-use Rattle.lower_assign.proofs.Appended.{appends-by}
+use Rattle.lower_values.specs.Lowerings.{giving}
+use Rattle.lower_values.proofs.Appended.{appends-by}
 use Rattle.lower_constructs.proofs.Parts.{declaration-is}
 use Rattle.lower_constructs.proofs.sources.declaration.Goals as goal
 

@@ -1,6 +1,6 @@
 use Rattle.std.proofs.Common.{arith, ap, ◌∙◌, drop, ◌+◌, ◌<◌, ◌≤◌, ◌≡◌, length, get_or}
-use Rattle.lower_assign.specs.Lowerings.{in_turn}
-use Rattle.lower_assign.proofs.Turns.{lowers-next, lowers-done}
+use Rattle.lower_values.specs.Lowerings.{in_turn}
+use Rattle.lower_values.proofs.Turns.{lowers-next, lowers-done}
 use Rattle.lower_constructs.specs.Modules.{declaration}
 use Rattle.lower_constructs.proofs.Blocks.{front-item}
 use Rattle.lower_constructs.proofs.Parts.{in_turn-none, in_turn-more}

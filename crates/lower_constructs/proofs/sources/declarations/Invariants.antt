@@ -1,5 +1,5 @@
-use Rattle.lower_assign.specs.Lowerings.{in_turn}
-use Rattle.lower_assign.proofs.Turns.{LowersAll}
+use Rattle.lower_values.specs.Lowerings.{in_turn}
+use Rattle.lower_values.proofs.Turns.{LowersAll}
 use Rattle.lower_constructs.specs.Modules.{declaration}
 use Rattle.lower_constructs.proofs.sources.declarations.Given as goal
 

@@ -1,5 +1,5 @@
 use Rattle.std.specs.Prelude.{true, false}
-use Rattle.lower_assign.specs.Values.{value}
+use Rattle.lower_values.specs.Values.{value}
 use Rattle.value_laws.proofs.Expressions.{expression-if, designator-evaluated}
 use Rattle.value_laws.proofs.laws.expressions_stand.Goals as goal
 

@@ -1,5 +1,0 @@
-use Rattle.lower_assign.proofs.Appended.{appends-acting}
-use Rattle.lower_assign.proofs.appending.act.Goals as goal
-
-pub returns : goal.returns
-returns c = λ names. appends-acting c.args.what c.args.operands c.line.ensures c.new.ensures c.in_ok-push.ensures.1

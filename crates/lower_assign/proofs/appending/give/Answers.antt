@@ -1,5 +1,0 @@
-use Rattle.lower_assign.proofs.Appended.{appends-giving}
-use Rattle.lower_assign.proofs.appending.give.Goals as goal
-
-pub returns : goal.returns
-returns c = λ names. appends-giving c.args.what c.args.operands c.line.ensures c.new.ensures c.in_ok-value.ensures.0 c.in_ok-value.ensures.1

@@ -1,6 +1,0 @@
-use Rattle.std.proofs.Common.{◌≡◌, drop}
-use Rattle.lower_assign.specs.Operations.{rank_from}
-use Rattle.lower_assign.proofs.elementals.rank_among.Given as goal
-
-abbrev pub invariant-each : goal.invariant-each
-invariant-each l = rank_from 0 l.xs ≡ rank_from l.rank (drop l.x-index l.xs)

@@ -1,6 +1,0 @@
-use Rattle.std.proofs.Common.{◌≡◌, map, take}
-use Rattle.lower_assign.specs.References.{sub_kind}
-use Rattle.lower_assign.proofs.references.sub_kinds.Given as goal
-
-abbrev pub invariant-each : goal.invariant-each
-invariant-each l = l.kinds ≡ map sub_kind (take l.subscript-index l.subscripts)

@@ -1,6 +1,0 @@
-use Rattle.std.proofs.Common.{◌≡◌, drop}
-use Rattle.lower_assign.specs.References.{truth_of}
-use Rattle.lower_assign.proofs.references.truth_of.Given as goal
-
-abbrev pub invariant-each : goal.invariant-each
-invariant-each l = truth_of l.truths l.name ≡ truth_of (drop l.truth-index l.truths) l.name
