@@ -8,7 +8,7 @@ use Rattle.ws_driver.specs.declared.request.Emit.{Emit}
 use Rattle.ws_driver.specs.Request.{Asked, data_of, input_told}
 use Rattle.ws_driver.specs.Sources.{IsSource, IsAccepted}
 use Rattle.ws_driver.specs.Answers.{IsRead, IsGiven, IsRefusal, IsAnswerOf}
-use Rattle.ws_driver.specs.Causes.{Reads, SomeTooLong, SomeRose, IsCalm, AllWithin}
+use Rattle.ws_driver.specs.Causes.{IsRunnable, Reads, SomeTooLong, SomeRose, IsCalm, AllWithin}
 use Rattle.ws_driver.proofs.Once.{never_both}
 use Rattle.ws_driver.proofs.Told.{at_file}
 
@@ -41,7 +41,7 @@ within_limit told r a text name file limit h tells is long (inl e) =
     read_within (told r.source) SOURCE_LIMIT h.bytes file (ap told e.0 ∙ is) h.read (subst (λ n. n < length file) e.1 long)
 within_limit told r a text name file limit h tells is long (inr e) =
     let source = tells r.source SOURCE_LIMIT (inl (refl, refl)) in
-    let accepted : IsAccepted source.0 = at_file (told r.source) source.0 IsAccepted source.1 e.1 in
+    let accepted : IsAccepted source.0 = (at_file (told r.source) source.0 IsRunnable source.1 e.1).1 in
     let same : h.bytes ≡ source.0 = at_file (told r.source) source.0 (λ f. h.bytes ≡ f) source.1 h.read.whole in
     input_within r.emit (input_told told (data_of r)) a text h.bytes file (subst IsAccepted (sym same) accepted) (ap (input_told told) e.0.0 ∙ is) (subst (λ n. n < length file) e.0.1 long) h.is
 

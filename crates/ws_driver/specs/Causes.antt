@@ -13,9 +13,13 @@ use Rattle.ws_driver.specs.Sources.{IsAccepted}
 abbrev pub ReadsInput : Option (List ℕ) → List ℕ → ℕ → Type 0
 ReadsInput input name limit = (input ≡ Some name) × (limit ≡ DATA_LIMIT)
 
--- a file that is read, and the most bytes that it may have: the source, and the data of a run where the source is accepted
+-- a source that is run: it is within its limit, and accepted
+abbrev pub IsRunnable : List ℕ → Type 0
+IsRunnable bytes = (length bytes ≤ SOURCE_LIMIT) × IsAccepted bytes
+
+-- a file that is read, and the most bytes that it may have: the source, and the data of a run where the source, if its file tells it, is run
 abbrev pub Reads : (List ℕ → Option (List ℕ)) → Asked → List ℕ → ℕ → Type 0
-Reads told r name limit = ((r.source ≡ name) × (limit ≡ SOURCE_LIMIT)) ⊎ (ReadsInput (data_of r) name limit × IfSome (told r.source) IsAccepted)
+Reads told r name limit = ((r.source ≡ name) × (limit ≡ SOURCE_LIMIT)) ⊎ (ReadsInput (data_of r) name limit × IfSome (told r.source) IsRunnable)
 
 -- ---- of the files that are read
 
