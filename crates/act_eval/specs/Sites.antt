@@ -2,6 +2,8 @@
 use Rattle.std.specs.Prelude.{◌≡◌, ◌⊎◌, ℕ, ◌<◌, List, [], ◌∷◌, ◌++◌, map, ℤ, pos, ◌<ℤ◌}
 use Rattle.phase_ops.specs.declared.effect.Effect.{Effect}
 use Rattle.phase_ops.specs.declared.effect.Effect.TheVariants.{Fault}
+use Rattle.phase_ops.specs.declared.phase.Address.{Address}
+use Rattle.phase_ops.specs.declared.phase.Source.TheVariants.{Fixed}
 use Rattle.phase_ops.specs.declared.phase.Micro.{Micro}
 use Rattle.phase_ops.specs.declared.phase.Micro.TheVariants as micro
 use Rattle.phase_ops.specs.Phases.{Cells, lay, address, Event, makes, loads, divides, gives, least_key, Spot, ops_events, calm, last_event}
@@ -26,6 +28,14 @@ view left cells may = record { left = left; cells = cells; may = may }
 -- a number that names a cell
 abbrev pub Small : ℕ → Type 0
 Small c = c < 9223372036854775808
+
+-- an address of one term that reads no cell
+abbrev pub line : ℤ → ℕ → ℤ → Address
+line base reg step = record { base = Fixed base; terms = record { reg = reg; step = Fixed step } ∷ [] }
+
+-- an address of two terms that reads no cell
+abbrev pub plane : ℤ → ℕ → ℤ → ℕ → ℤ → Address
+plane base first near second far = record { base = Fixed base; terms = record { reg = first; step = Fixed near } ∷ record { reg = second; step = Fixed far } ∷ [] }
 
 -- these events and then the effects `more` are to come, and they may
 pub record Comes (v : View) (es : List Event) (more : List Effect) : Type 0 where

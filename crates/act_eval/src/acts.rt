@@ -12,6 +12,7 @@ use crate::site::{End, Site};
 use phase_ops::{Act, Effect, Micro, Turn};
 
 /// The ops of one act at one iteration, in order.
+#[inline(always)]
 pub fn run_ops<H, S: Site<H>>(
     site: &S,
     hand: &mut H,
@@ -49,12 +50,14 @@ pub fn run_ops<H, S: Site<H>>(
     End::Ran
 }
 
+#[inline(always)]
 fn is_failed(end: End) -> bool
     ensures { IsTrue result ↔ (end ≡ spec_end.Failed) }
 {
     matches!(end, End::Failed)
 }
 
+#[inline(always)]
 pub fn element_of(act: &Act, iteration: u32) -> u32
     requires { iteration < 65536 }
     ensures value { result ≡ cond act.now.whole 0 (suc iteration) }
@@ -64,6 +67,7 @@ pub fn element_of(act: &Act, iteration: u32) -> u32
 }
 
 /// The acts of one strand, in order, up to the first that fails.
+#[inline(always)]
 pub fn run_acts<H, S: Site<H>>(
     site: &S,
     hand: &mut H,

@@ -5,7 +5,7 @@ ghost use Rattle.ws_base.specs.Numbers.{default_half};
 ghost use Rattle.phase_ops.specs.Scalars.{one_value, scalar_value};
 
 use phase_ops::{OneOp, ScalarOp};
-use value_ops::call_value;
+use value_ops::{call_value, in_kind, truth};
 use ws_base::{BinOp, CallWord, FaultName, UnOp};
 
 /// An operation on one value.
@@ -21,21 +21,22 @@ pub fn unary_value(op: OneOp, a: i64) -> Result<i64, FaultName>
 }
 
 /// An operation on two values.
+#[inline(always)]
 pub fn binary_value(op: ScalarOp, a: i64, b: i64) -> Result<i64, FaultName>
     ensures { result ≡ scalar_value default_half op a b }
 {
     match op {
-        ScalarOp::Add => value_ops::binary_value(BinOp::Add, a, b),
-        ScalarOp::Sub => value_ops::binary_value(BinOp::Sub, a, b),
-        ScalarOp::Mul => value_ops::binary_value(BinOp::Mul, a, b),
+        ScalarOp::Add => in_kind(i128::from(a) + i128::from(b)),
+        ScalarOp::Sub => in_kind(i128::from(a) - i128::from(b)),
+        ScalarOp::Mul => in_kind(i128::from(a) * i128::from(b)),
         ScalarOp::Div => value_ops::binary_value(BinOp::Div, a, b),
         ScalarOp::Pow => value_ops::binary_value(BinOp::Pow, a, b),
-        ScalarOp::Eq => value_ops::binary_value(BinOp::Eq, a, b),
-        ScalarOp::Ne => value_ops::binary_value(BinOp::Ne, a, b),
-        ScalarOp::Lt => value_ops::binary_value(BinOp::Lt, a, b),
-        ScalarOp::Le => value_ops::binary_value(BinOp::Le, a, b),
-        ScalarOp::Gt => value_ops::binary_value(BinOp::Gt, a, b),
-        ScalarOp::Ge => value_ops::binary_value(BinOp::Ge, a, b),
+        ScalarOp::Eq => Ok(truth(a == b)),
+        ScalarOp::Ne => Ok(truth(a != b)),
+        ScalarOp::Lt => Ok(truth(a < b)),
+        ScalarOp::Le => Ok(truth(a <= b)),
+        ScalarOp::Gt => Ok(truth(a > b)),
+        ScalarOp::Ge => Ok(truth(a >= b)),
         ScalarOp::And => value_ops::binary_value(BinOp::And, a, b),
         ScalarOp::Or => value_ops::binary_value(BinOp::Or, a, b),
         ScalarOp::Eqv => value_ops::binary_value(BinOp::Eqv, a, b),
