@@ -52,7 +52,7 @@ append_nil (x ∷ xs) = ap (λ (l : List _). x ∷ l) (append_nil xs)
 
 -- ---- the partials
 
-natural_few : (z : ℤ) → z ≤ℤ pos 65536 → natural z ≤ 65536
+pub natural_few : (z : ℤ) → z ≤ℤ pos 65536 → natural z ≤ 65536
 natural_few (pos n) h = omega (arith, ints, h)
 natural_few (negsuc n) h = omega arith
 
@@ -131,7 +131,7 @@ module _ (l : ℕ) (count : Source) (act : Act) (k : CallWord) (t f : ℕ) (m : 
     cells_long m' a (suc n) = ap suc (cells_long m' (suc a) n)
 
     pub join_fits : (l' t' slot : ℕ) → PartialsFit (Join l' count k t' f slot) after chunk
-    join_fits l' t' slot j b =
+    join_fits l' t' slot _ j b =
         let units' : ℕ = pieces (natural (source after count)) chunk in
         let same : units' ≡ many = ap (λ (z : ℤ). pieces (natural z) chunk) count_same in
         let from : ℕ = units' - j in

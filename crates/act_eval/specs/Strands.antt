@@ -4,7 +4,7 @@ use Rattle.std.specs.Int.{w64}
 use Rattle.std.proofs.Common.{FitsSigned}
 use Rattle.ws_base.specs.Numbers.{default_half}
 use Rattle.ws_base.specs.declared.op.CallWord.{CallWord}
-use Rattle.phase_ops.specs.Partials.{merged, total, takes, is_reduction}
+use Rattle.phase_ops.specs.Partials.{adds, merged, total, takes, is_reduction}
 use Rattle.phase_ops.specs.declared.effect.Effect.{Effect}
 use Rattle.phase_ops.specs.declared.phase.Act.{Act}
 use Rattle.phase_ops.specs.declared.phase.Phase.{Phase}
@@ -13,13 +13,13 @@ use Rattle.phase_ops.specs.Phases.{Cells, cell_value, source, natural, pieces, p
 use Rattle.phase_ops.specs.Free.{In, stored, lessened, acts_of, count_value, IsChunk, Apart, WellFormed}
 use Rattle.act_eval.specs.Sites.{View, Small, MayLook, part_given}
 
--- the partials that a Join merges, from the last one on, fit a word at each step
+-- the partials of a sum or count that a Join merges, from the last one on, fit a word at each step
 abbrev pub PartialsFit : Phase → Cells → ℕ → Type 0
 PartialsFit (Set l b acts) m chunk = Unit {0}
 PartialsFit (Loop l b count acts) m chunk = Unit {0}
 PartialsFit (Part l count act k t f) m chunk = Unit {0}
 PartialsFit (Join l count k t f slot) m chunk =
-    (j : ℕ) → j ≤ pieces (natural (source m count)) chunk
+    IsTrue (adds k) → (j : ℕ) → j ≤ pieces (natural (source m count)) chunk
     → FitsSigned w64 (merged default_half k (map (cell_value m) (partial_cells (f + (pieces (natural (source m count)) chunk - j)) j)))
 
 -- a Part or Join has one of the seven reductions, and each value of the strand is one that a Part's reduction takes
@@ -75,4 +75,4 @@ pub record PartBegins (v : View) (k : CallWord) (act : Act) (from count cell : �
 pub record JoinBegins (v : View) (k : CallWord) (first count slot : ℕ) (more : List Effect) : Type 0 where
   pub left_is : v.left ≡ joined slot (total default_half k (merged default_half k (map (cell_value v.cells) (partial_cells first count)))) ∷ more
   pub looks : (i : ℕ) → i < count → In (first + i) v.may
-  pub fits : (j : ℕ) → j ≤ count → FitsSigned w64 (merged default_half k (map (cell_value v.cells) (partial_cells (first + (count - j)) j)))
+  pub fits : IsTrue (adds k) → (j : ℕ) → j ≤ count → FitsSigned w64 (merged default_half k (map (cell_value v.cells) (partial_cells (first + (count - j)) j)))

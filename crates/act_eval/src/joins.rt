@@ -1,11 +1,11 @@
 //! A Join: the partials of the units before it, and the total that it stores.
 
-ghost use Rattle.std.specs.Prelude.{◌≡◌, ℕ, ◌+◌, ◌-◌, ◌≤◌, ◌<◌, List, ◌∷◌, map};
+ghost use Rattle.std.specs.Prelude.{◌≡◌, ℕ, ◌+◌, ◌-◌, ◌≤◌, ◌<◌, IsTrue, List, ◌∷◌, map};
 ghost use Rattle.std.specs.Int.{w64};
 ghost use Rattle.std.proofs.Common.{FitsSigned};
 ghost use Rattle.ws_base.specs.Numbers.{default_half};
 ghost use Rattle.phase_ops.specs.declared.effect.Effect.{Effect};
-ghost use Rattle.phase_ops.specs.Partials.{merged, total};
+ghost use Rattle.phase_ops.specs.Partials.{adds, merged, total};
 ghost use Rattle.phase_ops.specs.Phases.{cell_value, partial_cells, joined};
 ghost use Rattle.phase_ops.specs.Free.{In};
 ghost use Rattle.act_eval.specs.Sites.{Small, Led};
@@ -19,7 +19,7 @@ use scan_parts::Merge;
 fn merged_cells<M: Merge, H, S: Site<H>>(site: &S, hand: &mut H, first: u32, count: u32) -> M
     requires belongs { S.belongs site.now hand.old }
     requires may { (k : ℕ) → k < count → In (first + k) (S.view site.now hand.old).may }
-    requires fits { (k : ℕ) → k ≤ count → FitsSigned w64 (merged default_half M.kind (map (cell_value (S.view site.now hand.old).cells) (partial_cells (first + (count - k)) k))) }
+    requires fits { IsTrue (adds M.kind) → (k : ℕ) → k ≤ count → FitsSigned w64 (merged default_half M.kind (map (cell_value (S.view site.now hand.old).cells) (partial_cells (first + (count - k)) k))) }
     ensures value { M.part result ≡ merged default_half M.kind (map (cell_value (S.view site.now hand.old).cells) (partial_cells first count)) }
     ensures same { S.view site.now hand.new ≡ S.view site.now hand.old }
     ensures belongs { S.belongs site.now hand.new }

@@ -5,7 +5,8 @@ ghost use Rattle.std.specs.Int.{w64};
 ghost use Rattle.std.proofs.Common.{FitsSigned};
 ghost use Rattle.ws_base.specs.Numbers.{default_half};
 ghost use Rattle.phase_ops.specs.declared.effect.Effect.{Effect};
-ghost use Rattle.phase_ops.specs.Partials.{part_of, merge as spec_merge};
+ghost use Rattle.phase_ops.specs.Partials.{part_of};
+ghost use Rattle.scan_parts.specs.Laws.{MayMerge};
 ghost use Rattle.phase_ops.specs.Phases.{Event, each_from, value_events, summed};
 ghost use Rattle.act_eval.specs.declared.site.Worth.TheVariants as spec_worth;
 ghost use Rattle.act_eval.specs.Sites.{MayLook, IsWorth, IsFound, Led, part_given};
@@ -19,7 +20,7 @@ use scan_parts::Merge;
 
 /// Puts what an iteration gives in front of what later ones have given.
 fn add<M: Merge>(worth: Worth, part: M, least: u64) -> (M, u64)
-    requires fits { (z : ℤ) → worth ≡ spec_worth.Value z → FitsSigned w64 (spec_merge default_half M.kind (part_of default_half M.kind z) (M.part part)) }
+    requires fits { (z : ℤ) → worth ≡ spec_worth.Value z → MayMerge M.kind (part_of default_half M.kind z) (M.part part) }
     ensures { (here later : List Event) → IsWorth worth here → IsFound M.kind least (M.part part) later → IsFound M.kind result.1 (M.part result.0) (here ++ later) }
 {
     match &worth {

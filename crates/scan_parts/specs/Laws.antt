@@ -1,8 +1,13 @@
 -- What holds of merging.
-use Rattle.std.specs.Prelude.{◌≡◌, ℕ, IsTrue, List, ◌++◌, map, ℤ}
+use Rattle.std.specs.Prelude.{◌≡◌, ℕ, IsTrue, FitsSigned, List, ◌++◌, map, ℤ}
+use Rattle.std.specs.Int.{w64}
 use Rattle.ws_base.specs.declared.op.CallWord.{CallWord}
-use Rattle.ws_base.specs.Numbers.{reduction}
-use Rattle.phase_ops.specs.Partials.{unit_part, part_of, merge, merged, total, is_reduction}
+use Rattle.ws_base.specs.Numbers.{default_half, reduction}
+use Rattle.phase_ops.specs.Partials.{unit_part, part_of, merge, adds, merged, total, is_reduction}
+
+-- The two may be merged: a sum or a count has to fit 64 bits.
+abbrev pub MayMerge : CallWord → ℤ → ℤ → Type 0
+MayMerge k a b = IsTrue (adds k) → FitsSigned w64 (merge default_half k a b)
 
 -- the partial of these values
 abbrev pub partial : ℕ → CallWord → List ℤ → ℤ

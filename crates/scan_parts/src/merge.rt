@@ -2,10 +2,10 @@
 
 ghost use Rattle.std.specs.Prelude.{◌≡◌};
 ghost use Rattle.std.specs.Int.{w64, cast_signed};
-ghost use Rattle.std.proofs.Common.{FitsSigned};
 ghost use Rattle.ws_base.specs.Numbers.{default_half};
 ghost use Rattle.phase_ops.specs.Partials.{unit_part, part_of, merge as spec_merge, total as spec_total};
 ghost use Rattle.phase_ops.specs.Phases.{word};
+ghost use Rattle.scan_parts.specs.Laws.{MayMerge};
 
 use ws_base::FaultName;
 
@@ -27,9 +27,9 @@ pub trait Merge: Copy {
     fn of(value: i64) -> Self
         ensures { part result ≡ part_of default_half kind value };
 
-    /// The partial of the values of both. A sum or a count has to fit 64 bits; the others always do.
+    /// The partial of the values of both.
     fn merge(self, later: Self) -> Self
-        requires { FitsSigned w64 (spec_merge default_half kind (part self) (part later)) }
+        requires { MayMerge kind (part self) (part later) }
         ensures { part result ≡ spec_merge default_half kind (part self) (part later) };
 
     /// The reduction, or Overflow where a sum or product is out of range.

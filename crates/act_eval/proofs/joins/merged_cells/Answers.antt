@@ -18,7 +18,7 @@ look-value-requires-clause-may g c =
     (subst (λ (v : View). In cell v.may) (sym c.loop-at.invariant.same) (c.requires.may (c.args.count - 1 - c.loop-at.at) below), small)
 
 pub merge-part-requires : goal.merge-part-requires
-merge-part-requires g c =
+merge-part-requires g c = λ adding.
     let m : Cells = (g.S.Site.view c.args.site.now c.args.hand.now).cells in
     let cell : ℕ = c.args.first + (c.args.count - 1 - c.loop-at.at) in
     let found : c.from.result + c.from-in-loop-at.result ≡ cell = λ i. c.from.ensures i + c.from-in-loop-at.ensures i in
@@ -26,4 +26,4 @@ merge-part-requires g c =
     ∙ ap (λ (v : View). cell_value v.cells (c.from.result + c.from-in-loop-at.result)) c.loop-at.invariant.same ∙ ap (λ (n : ℕ). cell_value m n) found in
     subst (λ (x : ℤ). FitsSigned w64 x)
     (sym (ap (λ (x : ℤ). merge default_half g.M.Merge.kind x (g.M.Merge.part c.loop-at.part)) is ∙ one_more g.M.Merge.kind m c.args.first c.args.count c.loop-at.at (g.M.Merge.part c.loop-at.part) c.loop-at-test.true c.loop-at.invariant.part))
-    (c.requires.fits (c.loop-at.at + 1) (let t = c.loop-at-test.true in omega (arith, t)))
+    (c.requires.fits adding (c.loop-at.at + 1) (let t = c.loop-at-test.true in omega (arith, t)))

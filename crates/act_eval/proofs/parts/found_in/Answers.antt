@@ -7,7 +7,7 @@ use Rattle.act_eval.proofs.parts.found_in.Goals as goal
 
 pub add-requires : goal.add-requires
 add-requires g c = record {
-  fits = λ z q.
+  fits = λ z q _.
       let m : Cells = (g.S.Site.view c.args.site.now c.args.hand.now).cells in
       let f : ℕ → List Event = value_events c.args.act.now m in
       let i : ℕ = c.args.from + (c.args.count - 1 - c.loop-at.at) in
