@@ -4,33 +4,22 @@ use Rattle.std.specs.Prelude.{int_le, if◌then◌else◌}
 use Rattle.std.proofs.lemmas.Int.{ints}
 use Rattle.ws_base.specs.Numbers.{int_min, int_max}
 
+-- either branch is this number
+picks : (t : Bool) (x y z : ℤ) → (t ≡ true → x ≡ z) → (t ≡ false → y ≡ z) → (if t then x else y) ≡ z
+picks true x y z holds fails = holds refl
+picks false x y z holds fails = fails refl
+
 least_pos : (a b : ℕ) → int_min (pos a) (pos b) ≡ pos (min a b)
-least_pos a b = by (int_le (pos a) (pos b)) refl
-  where
-    by : (t : Bool) → int_le (pos a) (pos b) ≡ t → (if t then pos a else pos b) ≡ pos (min a b)
-    by true e = ap (λ (n : ℕ). pos n) (omega (arith, ints, e))
-    by false e = ap (λ (n : ℕ). pos n) (omega (arith, ints, e))
+least_pos a b = picks (int_le (pos a) (pos b)) (pos a) (pos b) (pos (min a b)) (λ e. ap (λ (n : ℕ). pos n) (omega (arith, ints, e))) (λ e. ap (λ (n : ℕ). pos n) (omega (arith, ints, e)))
 
 least_neg : (a b : ℕ) → int_min (negsuc a) (negsuc b) ≡ negsuc (max a b)
-least_neg a b = by (int_le (negsuc a) (negsuc b)) refl
-  where
-    by : (t : Bool) → int_le (negsuc a) (negsuc b) ≡ t → (if t then negsuc a else negsuc b) ≡ negsuc (max a b)
-    by true e = ap (λ (n : ℕ). negsuc n) (omega (arith, ints, e))
-    by false e = ap (λ (n : ℕ). negsuc n) (omega (arith, ints, e))
+least_neg a b = picks (int_le (negsuc a) (negsuc b)) (negsuc a) (negsuc b) (negsuc (max a b)) (λ e. ap (λ (n : ℕ). negsuc n) (omega (arith, ints, e))) (λ e. ap (λ (n : ℕ). negsuc n) (omega (arith, ints, e)))
 
 greatest_pos : (a b : ℕ) → int_max (pos a) (pos b) ≡ pos (max a b)
-greatest_pos a b = by (int_le (pos a) (pos b)) refl
-  where
-    by : (t : Bool) → int_le (pos a) (pos b) ≡ t → (if t then pos b else pos a) ≡ pos (max a b)
-    by true e = ap (λ (n : ℕ). pos n) (omega (arith, ints, e))
-    by false e = ap (λ (n : ℕ). pos n) (omega (arith, ints, e))
+greatest_pos a b = picks (int_le (pos a) (pos b)) (pos b) (pos a) (pos (max a b)) (λ e. ap (λ (n : ℕ). pos n) (omega (arith, ints, e))) (λ e. ap (λ (n : ℕ). pos n) (omega (arith, ints, e)))
 
 greatest_neg : (a b : ℕ) → int_max (negsuc a) (negsuc b) ≡ negsuc (min a b)
-greatest_neg a b = by (int_le (negsuc a) (negsuc b)) refl
-  where
-    by : (t : Bool) → int_le (negsuc a) (negsuc b) ≡ t → (if t then negsuc b else negsuc a) ≡ negsuc (min a b)
-    by true e = ap (λ (n : ℕ). negsuc n) (omega (arith, ints, e))
-    by false e = ap (λ (n : ℕ). negsuc n) (omega (arith, ints, e))
+greatest_neg a b = picks (int_le (negsuc a) (negsuc b)) (negsuc b) (negsuc a) (negsuc (min a b)) (λ e. ap (λ (n : ℕ). negsuc n) (omega (arith, ints, e))) (λ e. ap (λ (n : ℕ). negsuc n) (omega (arith, ints, e)))
 
 pub least_comm : (a b : ℤ) → int_min a b ≡ int_min b a
 least_comm (pos a) (pos b) = least_pos a b ∙ ap (λ (n : ℕ). pos n) (omega arith) ∙ sym (least_pos b a)
