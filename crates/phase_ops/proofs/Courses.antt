@@ -1,5 +1,5 @@
 -- Phases free of races are safe work for a team, and the team's memory is that of the phases.
-use Rattle.std.proofs.Common.{◌≡◌, ◌⊎◌, inl, inr, ℕ, zero, suc, ◌+◌, ◌*◌, ◌<◌, ◌≤◌, min, List, [], ◌∷◌, ◌++◌, length, sym, refl, ap, ◌∙◌, subst, arith, slice_index_or, Option, Some, None}
+use Rattle.std.proofs.Common.{◌≡◌, ◌⊎◌, inl, inr, ℕ, zero, suc, ◌+◌, ◌*◌, ◌<◌, ◌≤◌, min, List, [], ◌∷◌, ◌++◌, length, sym, refl, ap, ◌∙◌, subst, arith, slice_index_or}
 use mathlib.Core.Logic.{dite}
 use native.Mathlib.Decide.{dec_le}
 use Rattle.std.proofs.Math.Nat.{suc-mul, mul-le-mul_right}
@@ -141,14 +141,14 @@ key_is ps m chunk team t h = phase_key (slice_index_or ps t no_phase) (memory_af
 
 -- ---- safe
 
-pub phases_apart : (chunk : ℕ) (is : IsChunk chunk) (before : Option Phase) (ps : List Phase) (m : Cells) → FreeFrom chunk before ps m → (t : ℕ) → t < length ps
+pub phases_apart : (chunk : ℕ) (is : IsChunk chunk) (ps : List Phase) (m : Cells) → FreeFrom chunk ps m → (t : ℕ) → t < length ps
     → ((s : ℕ) → s < t → key (slice_index_or ps s no_phase) (after ps m chunk s) chunk ≡ none_yet) → Apart (slice_index_or ps t no_phase) (after ps m chunk t) chunk
-phases_apart chunk is before [] m f t l keyless = absurd (omega arith)
-phases_apart chunk is before (p ∷ ps) m f zero l keyless = (f.1 chunk is).0
-phases_apart chunk is before (p ∷ ps) m f (suc t) l keyless =
-    phases_apart chunk is (Some p) ps (after_phase p m chunk) (f.2 (keyless zero (omega arith))) t (omega arith) (λ s h. keyless (suc s) (omega (arith, h)))
+phases_apart chunk is [] m f t l keyless = absurd (omega arith)
+phases_apart chunk is (p ∷ ps) m f zero l keyless = (f.0 chunk is).0
+phases_apart chunk is (p ∷ ps) m f (suc t) l keyless =
+    phases_apart chunk is ps (after_phase p m chunk) (f.1 (keyless zero (omega arith))) t (omega arith) (λ s h. keyless (suc s) (omega (arith, h)))
 
 pub course_safe : (ps : List Phase) (m : Cells) (chunk team : ℕ) → IsChunk chunk → FreeList ps m → Safe (course ps m chunk team)
 course_safe ps m chunk team is f = λ t l keyless.
-    let a = phases_apart chunk is None ps m (f chunk is) t l (λ s h. sym (key_is ps m chunk team s (omega (arith, h, l))) ∙ keyless s h) in
+    let a = phases_apart chunk is ps m (f.phases chunk is) t l (λ s h. sym (key_is ps m chunk team s (omega (arith, h, l))) ∙ keyless s h) in
     units_free (slice_index_or ps t no_phase) (memory_after (course ps m chunk team) t) chunk (subst (λ (z : Cells). Apart (slice_index_or ps t no_phase) z chunk) (sym (memory_is ps m chunk team t (omega (arith, l)))) a)

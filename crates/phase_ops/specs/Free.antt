@@ -93,16 +93,23 @@ IsChunk chunk = (0 < chunk) × (chunk ≤ 65536)
 abbrev pub Free : Phase → Cells → Type 0
 Free p m = (chunk : ℕ) → IsChunk chunk → Apart p m chunk × WellFormed p m chunk
 
--- a Join stands after the Part whose partials it merges
+-- a Join stands directly after a Part that agrees with it in every field that both have
 abbrev pub Agrees : Phase → Option Phase → Type 0
 Agrees (Join l count k t f s) (Some (Part l' count' act k' t' f')) = (l' ≡ l) × (count' ≡ count) × (k' ≡ k) × (t' ≡ t) × (f' ≡ f)
 Agrees (Join l count k t f s) _ = ⊥
 Agrees p _ = Unit {0}
 
--- each phase is free from the memory after those before it, as long as none of these has a key
-abbrev pub FreeFrom : ℕ → Option Phase → List Phase → Cells → Type 0
-FreeFrom chunk before [] m = Unit {0}
-FreeFrom chunk before (p ∷ ps) m = Agrees p before × Free p m × (key p m chunk ≡ none_yet → FreeFrom chunk (Some p) ps (after_phase p m chunk))
+-- so does each Join of these phases, which stand after `before`
+abbrev pub JoinsAgree : Option Phase → List Phase → Type 0
+JoinsAgree before [] = Unit {0}
+JoinsAgree before (p ∷ ps) = Agrees p before × JoinsAgree (Some p) ps
 
-abbrev pub FreeList : List Phase → Cells → Type 0
-FreeList ps m = (chunk : ℕ) → IsChunk chunk → FreeFrom chunk None ps m
+-- each phase is free from the memory after those before it, as long as none of these has a key
+abbrev pub FreeFrom : ℕ → List Phase → Cells → Type 0
+FreeFrom chunk [] m = Unit {0}
+FreeFrom chunk (p ∷ ps) m = Free p m × (key p m chunk ≡ none_yet → FreeFrom chunk ps (after_phase p m chunk))
+
+-- a list is free of races from a memory
+pub record FreeList (ps : List Phase) (m : Cells) : Type 0 where
+  pub joins : JoinsAgree None ps
+  pub phases : (chunk : ℕ) → IsChunk chunk → FreeFrom chunk ps m

@@ -140,16 +140,17 @@ assign_copies chunk = record {
 }
 
 shift_free : FreeList shift shift_cells
-shift_free chunk is = (
-  tt,
-  λ c ci. (copy_apart saved 0 5 shift_cells c (save_copies c) (inl (omega arith)) (omega arith) (omega arith), copy_well saved 0 5 shift_cells c (save_copies c) (inl (omega arith)) (omega arith) (omega arith)),
-  λ none. (
-    tt,
-    λ c ci. subst (λ (m : Cells). Apart (copy assigned 5 1) m c × WellFormed (copy assigned 5 1) m c) (sym (after_first chunk is.0))
-        (copy_apart assigned 5 1 between c (assign_copies c) (inr (omega arith)) (omega arith) (omega arith), copy_well assigned 5 1 between c (assign_copies c) (inr (omega arith)) (omega arith) (omega arith)),
-    λ none'. tt,
-  ),
-)
+shift_free = record {
+  joins = (tt, (tt, tt));
+  phases = λ chunk is. (
+    λ c ci. (copy_apart saved 0 5 shift_cells c (save_copies c) (inl (omega arith)) (omega arith) (omega arith), copy_well saved 0 5 shift_cells c (save_copies c) (inl (omega arith)) (omega arith) (omega arith)),
+    λ none. (
+      λ c ci. subst (λ (m : Cells). Apart (copy assigned 5 1) m c × WellFormed (copy assigned 5 1) m c) (sym (after_first chunk is.0))
+          (copy_apart assigned 5 1 between c (assign_copies c) (inr (omega arith)) (omega arith) (omega arith), copy_well assigned 5 1 between c (assign_copies c) (inr (omega arith)) (omega arith) (omega arith)),
+      λ none'. tt,
+    ),
+  );
+}
 
 pub shift_may : (team chunk : ℕ) → 1 ≤ team → team ≤ 64 → IsChunk chunk → MayStart shift shift_cells team chunk
 shift_may team chunk some few is = record { someone = some; team_small = few; chunk_is = is; few = omega arith; free = shift_free }

@@ -1,5 +1,4 @@
 -- Phases that are free of races are a course of work, and what a team closes with is what they leave.
-use Rattle.std.specs.Prelude.{Option, Some, None}
 use Rattle.std.proofs.Common.{zero, suc, [], ◌∷◌, ◌<◌, length, sym, subst, arith}
 use Rattle.phase_ops.specs.Phases.{after_phase, after, key, none_yet}
 use Rattle.phase_ops.specs.Free.{WellFormed, FreeFrom, IsChunk}
@@ -48,12 +47,12 @@ pub team_closes : (ps : List Phase) (opening : Cells) (team chunk : ℕ) (k : Co
 team_closes ps opening team chunk k m x may s at is = let e = ends (course ps opening chunk team) k s m x at may.someone is in (e.0, closing ps opening team chunk k e.0 e.1)
 
 -- a phase of the list is well formed, as long as none before it has a key
-formed : (chunk : ℕ) (is : IsChunk chunk) (before : Option Phase) (ps : List Phase) (m : Cells) → FreeFrom chunk before ps m → (t : ℕ) → t < length ps
+formed : (chunk : ℕ) (is : IsChunk chunk) (ps : List Phase) (m : Cells) → FreeFrom chunk ps m → (t : ℕ) → t < length ps
     → ((s : ℕ) → s < t → key (phase_at ps s) (after ps m chunk s) chunk ≡ none_yet) → WellFormed (phase_at ps t) (after ps m chunk t) chunk
-formed chunk is before [] m f t l keyless = absurd (omega (arith, l))
-formed chunk is before (p ∷ ps) m f zero l keyless = (f.1 chunk is).1
-formed chunk is before (p ∷ ps) m f (suc t) l keyless =
-    formed chunk is (Some p) ps (after_phase p m chunk) (f.2 (keyless zero (omega arith))) t (omega (arith, l)) (λ s h. keyless (suc s) (omega (arith, h)))
+formed chunk is [] m f t l keyless = absurd (omega (arith, l))
+formed chunk is (p ∷ ps) m f zero l keyless = (f.0 chunk is).1
+formed chunk is (p ∷ ps) m f (suc t) l keyless =
+    formed chunk is ps (after_phase p m chunk) (f.1 (keyless zero (omega arith))) t (omega (arith, l)) (λ s h. keyless (suc s) (omega (arith, h)))
 
 pub team_can : (ps : List Phase) (opening : Cells) (team chunk : ℕ) → MayStart ps opening team chunk → CanRun (course ps opening chunk team)
 team_can ps opening team chunk may = record {
@@ -67,4 +66,4 @@ team_can ps opening team chunk may = record {
   where
     well : (t : ℕ) → t < length ps → ((s : ℕ) → s < t → key_at (course ps opening chunk team) s ≡ none_yet) → WellFormed (phase_at ps t) (memory_after (course ps opening chunk team) t) chunk
     well t l keyless = subst (λ (z : Cells). WellFormed (phase_at ps t) z chunk) (sym (memory_is ps opening chunk team t (omega (arith, l))))
-        (formed chunk may.chunk_is None ps opening (may.free chunk may.chunk_is) t l (λ s h. sym (key_is ps opening chunk team s (omega (arith, h, l))) ∙ keyless s h))
+        (formed chunk may.chunk_is ps opening (may.free.phases chunk may.chunk_is) t l (λ s h. sym (key_is ps opening chunk team s (omega (arith, h, l))) ∙ keyless s h))
