@@ -7,16 +7,13 @@ use Rattle.phase_ops.specs.declared.effect.Turn.TheVariants.{Fails, Does}
 use Rattle.ws_base.specs.declared.fault.FaultName.{FaultName}
 use Rattle.phase_ops.specs.declared.phase.Micro.{Micro}
 use Rattle.phase_ops.specs.declared.phase.Micro.TheVariants as micro
-use Rattle.phase_ops.specs.Phases.{Cells, address, address_cells, looks, divisors, turn, over, fault_number, Spot, Event, plain, went, ops_events, loads, makes, divides}
+use Rattle.ws_base.specs.Words.{fault_number}
+use Rattle.phase_ops.proofs.Keys.{makes_plain}
+use Rattle.phase_ops.specs.Phases.{Cells, address, address_cells, looks, divisors, turn, over, Spot, Event, plain, went, ops_events, loads, makes, divides}
 use Rattle.phase_ops.specs.Free.{In, stored, lessened}
 use Rattle.phase_ops.proofs.Members.{in_left, in_right}
 use Rattle.phase_ops.proofs.Frame.{loads_plain}
 use Rattle.act_eval.specs.Sites.{View, Small, Comes, Rest, named_cells}
-
-pub makes_plain : (cs : List ℕ) (ds : List ℤ) (es : List Event) → makes (plain cs ds es) ≡ makes es
-makes_plain [] [] es = refl
-makes_plain [] (d ∷ ds) es = makes_plain [] ds es
-makes_plain (c ∷ cs) ds es = makes_plain cs ds es
 
 pub divides_plain : (cs : List ℕ) (ds : List ℤ) (es : List Event) → divides (plain cs ds es) ≡ ds ++ divides es
 divides_plain [] [] es = refl

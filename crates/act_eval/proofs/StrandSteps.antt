@@ -10,6 +10,7 @@ use Rattle.phase_ops.specs.declared.phase.Phase.TheVariants.{Set, Loop, Part, Jo
 use Rattle.phase_ops.specs.Phases.{Event, Loads, Divides, Makes, Gives, acts_events, value_events, each_from, loads, makes, divides, natural, source, pieces, unit_size, partial_cells}
 use Rattle.phase_ops.specs.Free.{In, acts_of}
 use Rattle.phase_ops.proofs.Members.{in_left, in_right, to_each}
+use Rattle.phase_ops.proofs.Keys.{makes_loads}
 use Rattle.phase_ops.proofs.Strands.{loads_append}
 use Rattle.act_eval.specs.Sites.{View, Comes, MayLook}
 use Rattle.act_eval.specs.Strands.{Begins, HasRoom, HasStrand, PartBegins, JoinBegins}
@@ -46,10 +47,6 @@ loads_first : (c : ℕ) (cs : List ℕ) (es : List Event) → In c cs → In c (
 loads_first c [] es h = elim h [ ]
 loads_first c (d ∷ cs) es (inl e) = inl e
 loads_first c (d ∷ cs) es (inr h) = inr (loads_first c cs es h)
-
-makes_loads : (cs : List ℕ) (es : List Event) → makes (map Loads cs ++ es) ≡ makes es
-makes_loads [] es = refl
-makes_loads (c ∷ cs) es = makes_loads cs es
 
 -- ---- acts
 

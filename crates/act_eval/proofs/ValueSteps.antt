@@ -14,7 +14,8 @@ use Rattle.phase_ops.proofs.Members.{in_left, in_right}
 use Rattle.phase_ops.proofs.Frame.{loads_plain}
 use Rattle.act_eval.specs.Sites.{Small, Rest, MayLook, IsWorth, named_cells}
 use Rattle.act_eval.specs.declared.site.Worth.TheVariants as worth
-use Rattle.act_eval.proofs.OpSteps.{makes_plain, divides_plain}
+use Rattle.phase_ops.proofs.Keys.{makes_plain}
+use Rattle.act_eval.proofs.OpSteps.{divides_plain}
 
 pub gives_plain : (cs : List ℕ) (ds : List ℤ) (es : List Event) → gives (plain cs ds es) ≡ gives es
 gives_plain [] [] es = refl

@@ -2,7 +2,8 @@
 
 ghost use Rattle.std.specs.Prelude.{◌≡◌, ℕ, ◌+◌, ◌*◌, ◌≤◌, ◌<◌, IsTrue, IfSome, length, slice_index, slice_index_or, ℤ, pos, ◌+ℤ◌, ◌*ℤ◌, ◌<ℤ◌, int_div, int_rem};
 ghost use Rattle.std.specs.Int.{w64, int_wrap, cast_signed};
-ghost use Rattle.phase_ops.specs.Phases.{source, source_cells, register, address, address_cells, cell_of, looks, divisors, turn, fault_number};
+ghost use Rattle.phase_ops.specs.Phases.{source, source_cells, register, address, address_cells, cell_of, looks, divisors, turn};
+ghost use Rattle.ws_base.specs.Words.{fault_number};
 ghost use Rattle.phase_ops.specs.Free.{In};
 ghost use Rattle.act_eval.specs.Sites.{Small, line, plane, named_cells};
 

@@ -40,31 +40,24 @@ address_same : (xs ys : Cells) (regs : List ℤ) (d : Address) → Agree xs ys (
 address_same xs ys regs d a = λ i.
     cell_of (source_same xs ys d.base (agree_left xs ys (source_cells d.base) (term_cells d.terms) a) i +ℤ terms_same xs ys regs d.terms (agree_right xs ys (source_cells d.base) (term_cells d.terms) a) i)
 
+op_same : (xs ys : Cells) (regs : List ℤ) (op : Micro) → Agree xs ys (looks xs regs op) → (looks xs regs op ≡ looks ys regs op) × (divisors xs op ≡ divisors ys op)
+op_same xs ys regs (micro.Load d) a = (ap (λ (c : ℕ). address_cells d ++ c ∷ []) (address_same xs ys regs d (agree_left xs ys (address_cells d) (address xs regs d ∷ []) a)), refl)
+op_same xs ys regs (micro.Digit r b m) a = (refl, λ i. source_same xs ys b (agree_left xs ys (source_cells b) (source_cells m) a) i ∷ source_same xs ys m (agree_right xs ys (source_cells b) (source_cells m) a) i ∷ [])
+op_same xs ys regs (micro.Fixed z) a = (refl, refl)
+op_same xs ys regs micro.Position a = (refl, refl)
+op_same xs ys regs (micro.Unary o r) a = (refl, refl)
+op_same xs ys regs (micro.Binary o r s) a = (refl, refl)
+op_same xs ys regs (micro.Select r s t) a = (refl, refl)
+op_same xs ys regs (micro.Gate r) a = (refl, refl)
+op_same xs ys regs (micro.FailIf n r) a = (refl, refl)
+op_same xs ys regs (micro.Store d r) a = (refl, refl)
+op_same xs ys regs (micro.Least d r) a = (refl, refl)
+
 pub looks_same : (xs ys : Cells) (regs : List ℤ) (op : Micro) → Agree xs ys (looks xs regs op) → looks xs regs op ≡ looks ys regs op
-looks_same xs ys regs (micro.Load d) a = ap (λ (c : ℕ). address_cells d ++ c ∷ []) (address_same xs ys regs d (agree_left xs ys (address_cells d) (address xs regs d ∷ []) a))
-looks_same xs ys regs (micro.Fixed z) a = refl
-looks_same xs ys regs micro.Position a = refl
-looks_same xs ys regs (micro.Digit r b m) a = refl
-looks_same xs ys regs (micro.Unary o r) a = refl
-looks_same xs ys regs (micro.Binary o r s) a = refl
-looks_same xs ys regs (micro.Select r s t) a = refl
-looks_same xs ys regs (micro.Gate r) a = refl
-looks_same xs ys regs (micro.FailIf n r) a = refl
-looks_same xs ys regs (micro.Store d r) a = refl
-looks_same xs ys regs (micro.Least d r) a = refl
+looks_same xs ys regs op a = (op_same xs ys regs op a).0
 
 divisors_same : (xs ys : Cells) (regs : List ℤ) (op : Micro) → Agree xs ys (looks xs regs op) → divisors xs op ≡ divisors ys op
-divisors_same xs ys regs (micro.Digit r b m) a = λ i. source_same xs ys b (agree_left xs ys (source_cells b) (source_cells m) a) i ∷ source_same xs ys m (agree_right xs ys (source_cells b) (source_cells m) a) i ∷ []
-divisors_same xs ys regs (micro.Load d) a = refl
-divisors_same xs ys regs (micro.Fixed z) a = refl
-divisors_same xs ys regs micro.Position a = refl
-divisors_same xs ys regs (micro.Unary o r) a = refl
-divisors_same xs ys regs (micro.Binary o r s) a = refl
-divisors_same xs ys regs (micro.Select r s t) a = refl
-divisors_same xs ys regs (micro.Gate r) a = refl
-divisors_same xs ys regs (micro.FailIf n r) a = refl
-divisors_same xs ys regs (micro.Store d r) a = refl
-divisors_same xs ys regs (micro.Least d r) a = refl
+divisors_same xs ys regs op a = (op_same xs ys regs op a).1
 
 pub turn_same : (i : ℕ) (xs ys : Cells) (regs : List ℤ) (op : Micro) → Agree xs ys (looks xs regs op) → turn i xs regs op ≡ turn i ys regs op
 turn_same i xs ys regs (micro.Digit r b m) a = λ k. Next (int_rem (int_div (register regs r) (source_same xs ys b (agree_left xs ys (source_cells b) (source_cells m) a) k)) (source_same xs ys m (agree_right xs ys (source_cells b) (source_cells m) a) k))

@@ -22,7 +22,8 @@ use Rattle.phase_ops.specs.declared.phase.Phase.{Phase}
 use Rattle.phase_ops.specs.declared.phase.Phase.TheVariants.{Set, Loop, Part, Join}
 use Rattle.ws_base.specs.Numbers.{Exact, is_true, default_half}
 use Rattle.phase_ops.specs.Scalars.{one_value, scalar_value}
-use Rattle.phase_ops.specs.Phases.{turn_of, register, Cells, source, looks, divisors, turn, over, fault_number, key_of, Spot, Event, Loads, Divides, Makes, Gives, plain, went, ops_events, spot, acts_events, each_from, makes, none_yet, least_key, natural, pieces, unit_size, strand_effects, units, effects, phase_effects, key, first_strand, strand_count, iterations, calm, last_event, value_events, summed, gives, word, joined, partial_cells, cell_value}
+use Rattle.ws_base.specs.Words.{fault_number}
+use Rattle.phase_ops.specs.Phases.{turn_of, register, Cells, source, looks, divisors, turn, over, key_of, Spot, Event, Loads, Divides, Makes, Gives, plain, went, ops_events, spot, acts_events, each_from, makes, none_yet, least_key, natural, pieces, unit_size, strand_effects, units, effects, phase_effects, key, first_strand, strand_count, iterations, calm, last_event, value_events, summed, gives, word, joined, partial_cells, cell_value}
 use Rattle.phase_ops.specs.Free.{In, WellFormed, IsChunk}
 use Rattle.phase_ops.specs.Partials.{part_of, merged, total}
 use Rattle.phase_ops.specs.Faults.{act_lines, lines}
@@ -70,7 +71,7 @@ least_below k (Fault j ∷ es) (inr h) = let l = least_below k es h in omega (ar
 
 -- ---- the keys of a strand
 
-makes_plain : (cs : List ℕ) (ds : List ℤ) (es : List Event) → makes (plain cs ds es) ≡ makes es
+pub makes_plain : (cs : List ℕ) (ds : List ℤ) (es : List Event) → makes (plain cs ds es) ≡ makes es
 makes_plain [] [] es = refl
 makes_plain [] (d ∷ ds) es = makes_plain [] ds es
 makes_plain (c ∷ cs) ds es = makes_plain cs ds es
@@ -126,36 +127,24 @@ turn_none i m regs (micro.FailIf n r) h = fail_none (is_true (register regs r)) 
 turn_none i m regs (micro.Store a r) h = h
 turn_none i m regs (micro.Least a r) h = h
 
+one_more : (s : Spot) (regs : List ℤ) (count k : ℕ) (rest : Cells → List ℤ → List Event) → OfOp s (suc (length regs)) count k ⊎ Later k rest → OfOp s (length regs) (suc count) k ⊎ Later k rest
+one_more s regs count k rest (inl w) = inl (one_op s (length regs) count k w)
+one_more s regs count k rest (inr w) = inr w
+
 went_fault : (s : Spot) (regs : List ℤ) (count k : ℕ) (next : Cells → ℤ → List Event) (rest : Cells → List ℤ → List Event) (m : Cells) (t : Turn) → (makes_fault t → ⊥)
     → ((m' : Cells) (z : ℤ) → In (Fault k) (makes (next m' z)) → OfOp s (suc (length regs)) count k ⊎ Later k rest)
     → In (Fault k) (makes (went (((s.act * 1048576 + length regs) * 1048576 + s.element) * 16) m next rest t)) → OfOp s (length regs) (suc count) k ⊎ Later k rest
 unfolding is_fault makes_fault
-went_fault s regs count k next rest m (Next z) never go h = more (go m z h)
-  where
-    more : OfOp s (suc (length regs)) count k ⊎ Later k rest → OfOp s (length regs) (suc count) k ⊎ Later k rest
-    more (inl w) = inl (one_op s (length regs) count k w)
-    more (inr w) = inr w
+went_fault s regs count k next rest m (Next z) never go h = one_more s regs count k rest (go m z h)
 went_fault s regs count k next rest m Shut never go h = inr (m, [], h)
 went_fault s regs count k next rest m (Fails n) never go (inl e) = inl (length regs, omega arith, omega arith, n, fault_same k ((((s.act * 1048576 + length regs) * 1048576 + s.element) * 16) + fault_number n) e)
 went_fault s regs count k next rest m (Fails n) never go (inr h) = elim h [ ]
-went_fault s regs count k next rest m (Does (Fault j)) never go (inr h) = more (go m (pos 0) h)
-  where
-    more : OfOp s (suc (length regs)) count k ⊎ Later k rest → OfOp s (length regs) (suc count) k ⊎ Later k rest
-    more (inl w) = inl (one_op s (length regs) count k w)
-    more (inr w) = inr w
+went_fault s regs count k next rest m (Does (Fault j)) never go (inr h) = one_more s regs count k rest (go m (pos 0) h)
 went_fault s regs count k next rest m (Does (Fault j)) never go (inl e) = absurd (never tt)
 went_fault s regs count k next rest m (Does (Store c v)) never go (inl e) = absurd (no_fault k (Store c v) (λ x. x) e)
-went_fault s regs count k next rest m (Does (Store c v)) never go (inr h) = more (go (over (Store c v) m) (pos 0) h)
-  where
-    more : OfOp s (suc (length regs)) count k ⊎ Later k rest → OfOp s (length regs) (suc count) k ⊎ Later k rest
-    more (inl w) = inl (one_op s (length regs) count k w)
-    more (inr w) = inr w
+went_fault s regs count k next rest m (Does (Store c v)) never go (inr h) = one_more s regs count k rest (go (over (Store c v) m) (pos 0) h)
 went_fault s regs count k next rest m (Does (Least c v)) never go (inl e) = absurd (no_fault k (Least c v) (λ x. x) e)
-went_fault s regs count k next rest m (Does (Least c v)) never go (inr h) = more (go (over (Least c v) m) (pos 0) h)
-  where
-    more : OfOp s (suc (length regs)) count k ⊎ Later k rest → OfOp s (length regs) (suc count) k ⊎ Later k rest
-    more (inl w) = inl (one_op s (length regs) count k w)
-    more (inr w) = inr w
+went_fault s regs count k next rest m (Does (Least c v)) never go (inr h) = one_more s regs count k rest (go (over (Least c v) m) (pos 0) h)
 
 ops_fault : (s : Spot) (ops : List Micro) (m : Cells) (regs : List ℤ) (rest : Cells → List ℤ → List Event) (k : ℕ) → In (Fault k) (makes (ops_events s ops m regs rest)) → OfOp s (length regs) (length ops) k ⊎ Later k rest
 ops_fault s [] m regs rest k h = inr (m, regs, h)
@@ -251,7 +240,7 @@ numbered p m chunk i k acts l long same h r =
 lines_long : (acts : List Act) → length acts ≡ length (lines acts)
 lines_long acts = sym (length-map acts (λ (a : Act). a.line))
 
-makes_loads : (cs : List ℕ) (es : List Event) → makes (map Loads cs ++ es) ≡ makes es
+pub makes_loads : (cs : List ℕ) (es : List Event) → makes (map Loads cs ++ es) ≡ makes es
 makes_loads [] es = refl
 makes_loads (c ∷ cs) es = makes_loads cs es
 

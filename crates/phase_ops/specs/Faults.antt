@@ -1,5 +1,5 @@
 -- The fault that a key stands for.
-use Rattle.std.specs.Prelude.{◌≡◌, ℕ, ◌<◌, List, [], ◌∷◌, length, map, slice_index_or, false}
+use Rattle.std.specs.Prelude.{◌≡◌, ℕ, ◌<◌, List, [], ◌∷◌, length, map, slice_index_or, true, false}
 use Rattle.ws_base.specs.declared.fault.FaultName.{FaultName}
 use Rattle.ws_base.specs.declared.fault.Fault.{Fault}
 use Rattle.phase_ops.specs.declared.phase.Act.{Act}
@@ -10,15 +10,18 @@ use Rattle.phase_ops.specs.Phases.{key_of}
 abbrev pub no_act : Act
 no_act = record { line = 0; ops = []; whole = false }
 
--- the lines of the acts; a Join counts as one
+-- the acts that may fail; a Join counts as one
+abbrev pub failing_acts : Phase → List Act
+failing_acts (Set l b acts) = acts
+failing_acts (Loop l b count acts) = acts
+failing_acts (Part l count act k t f) = act ∷ []
+failing_acts (Join l count k t f s) = record { line = l; ops = []; whole = true } ∷ []
+
 abbrev pub lines : List Act → List ℕ
 lines acts = map (λ (a : Act). a.line) acts
 
 abbrev pub act_lines : Phase → List ℕ
-act_lines (Set l b acts) = lines acts
-act_lines (Loop l b count acts) = lines acts
-act_lines (Part l count act k t f) = act.line ∷ []
-act_lines (Join l count k t f s) = l ∷ []
+act_lines p = lines (failing_acts p)
 
 -- the key is of this act, op, element and fault
 pub record IsKey (p : Phase) (key act op element : ℕ) (name : FaultName) : Type 0 where

@@ -9,7 +9,7 @@ use Rattle.phase_ops.specs.declared.phase.Phase.TheVariants.{Set, Loop, Part, Jo
 use Rattle.phase_ops.specs.Phases.{Cells, parameter, unit_reads, units, effects, strands, strand_events, strand_effects, iterations, acts_events, value_events, makes, lay, key, key_of, none_yet}
 use Rattle.phase_ops.specs.Free.{In, Apart, WellFormed, IsChunk}
 use Rattle.phase_ops.specs.Course.{FreeOfRaces, work_of}
-use Rattle.phase_ops.specs.Faults.{act_lines, IsKey}
+use Rattle.phase_ops.specs.Faults.{failing_acts, act_lines, IsKey}
 
 -- both memories have these cells alike
 abbrev pub Agree : Cells → Cells → List ℕ → Type 0
@@ -48,10 +48,7 @@ abbrev pub wholes : List Act → List Bool
 wholes acts = map (λ (a : Act). a.whole) acts
 
 abbrev pub act_wholes : Phase → List Bool
-act_wholes (Set l b acts) = wholes acts
-act_wholes (Loop l b count acts) = wholes acts
-act_wholes (Part l count act k t f) = act.whole ∷ []
-act_wholes (Join l count k t f slot) = true ∷ []
+act_wholes p = wholes (failing_acts p)
 
 -- the element that a fault of the act reports at the iteration i
 abbrev pub element_of : Phase → ℕ → ℕ → ℕ

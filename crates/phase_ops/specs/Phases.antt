@@ -5,7 +5,7 @@ use Rattle.ws_base.specs.Numbers.{Exact, is_true, default_half}
 use Rattle.phase_ops.specs.Scalars.{one_value, scalar_value}
 use Rattle.phase_ops.specs.Partials.{part_of, merged, total}
 use Rattle.ws_base.specs.declared.fault.FaultName.{FaultName}
-use Rattle.ws_base.specs.declared.fault.FaultName.TheVariants as fault
+use Rattle.ws_base.specs.Words.{fault_number}
 use Rattle.ws_base.specs.declared.op.CallWord.{CallWord}
 use Rattle.phase_ops.specs.declared.effect.Effect.{Effect}
 use Rattle.phase_ops.specs.declared.effect.Effect.TheVariants.{Store, Least, Fault}
@@ -103,20 +103,6 @@ over (Least c v) m = slice_set m c (min (slice_index m c) v)
 over (Fault k) m = m
 
 -- ---- keys
-
-abbrev pub fault_number : FaultName → ℕ
-fault_number fault.Bounds = 1
-fault_number fault.Shape = 2
-fault_number fault.Overflow = 3
-fault_number fault.DivideByZero = 4
-fault_number fault.ZeroStride = 5
-fault_number fault.ManyOne = 6
-fault_number fault.Unallocated = 7
-fault_number fault.Allocated = 8
-fault_number fault.TooLarge = 9
-fault_number fault.DataEnd = 10
-fault_number fault.DataBad = 11
-fault_number fault.Steps = 12
 
 abbrev pub key_of : ℕ → ℕ → ℕ → FaultName → ℕ
 key_of act op element n = ((act * 1048576 + op) * 1048576 + element) * 16 + fault_number n

@@ -1,7 +1,7 @@
 //! Faults from keys.
 ghost use Rattle.std.specs.Prelude.{◌≡◌, ℕ, ◌<◌, ◌/◌, ◌%◌, length, slice_index_or};
 ghost use Rattle.ws_base.specs.declared.fault.FaultName.{FaultName};
-ghost use Rattle.phase_ops.specs.Phases.{fault_number};
+ghost use Rattle.ws_base.specs.Words.{fault_number};
 ghost use Rattle.phase_ops.specs.Faults.{act_lines, lines, IsKey, HasKey, fault_at};
 
 use crate::phase::{Act, Phase};

@@ -3,6 +3,8 @@ use Rattle.std.proofs.Common.{◌≡◌, inl, inr, ℕ, zero, suc, ◌+◌, ◌-
 use Rattle.std.specs.Prelude.{nat_lt, if◌then◌else◌}
 use Rattle.std.proofs.lemmas.Int.{ints}
 use Rattle.std.proofs.Math.Nat.{mul-le-mul_right, suc-mul, div-mul-le_self}
+use Rattle.phase_ops.proofs.Keys.{makes_plain, makes_loads}
+use Rattle.act_eval.proofs.Joining.{natural_few}
 use Rattle.phase_ops.specs.declared.effect.Effect.{Effect}
 use Rattle.phase_ops.specs.declared.effect.Turn.{Turn}
 use Rattle.phase_ops.specs.declared.effect.Turn.TheVariants.{Next, Shut, Fails, Does}
@@ -15,15 +17,6 @@ use Rattle.phase_ops.specs.declared.effect.Effect.TheVariants.{Store, Fault}
 use Rattle.phase_ops.specs.Partials.{total, merged, part_of}
 use Rattle.ws_base.specs.Numbers.{default_half}
 use Rattle.phase_ops.specs.Free.{In, WellFormed}
-
-makes_plain : (cs : List ℕ) (ds : List ℤ) (es : List Event) → makes (plain cs ds es) ≡ makes es
-makes_plain [] [] es = refl
-makes_plain [] (d ∷ ds) es = makes_plain [] ds es
-makes_plain (c ∷ cs) ds es = makes_plain cs ds es
-
-makes_loads : (cs : List ℕ) (es : List Event) → makes (map Loads cs ++ es) ≡ makes es
-makes_loads [] es = refl
-makes_loads (c ∷ cs) es = makes_loads cs es
 
 -- an op makes one effect at most
 went_few : (key most : ℕ) (m : Cells) (next : Cells → ℤ → List Event) (rest : Cells → List ℤ → List Event) (t : Turn) → ((m' : Cells) (z : ℤ) → length (makes (next m' z)) ≤ most)
@@ -65,10 +58,6 @@ strand_few (Join l count k t f slot) m chunk s w =
     let cells : List ℕ = partial_cells f (pieces (natural (source m count)) chunk) in
     let e : Effect = joined slot (total default_half k (merged default_half k (map (cell_value m) cells))) in
     let long = ap length (makes_loads cells (Makes e ∷ [])) in omega (arith, long)
-
-natural_few : (z : ℤ) → z ≤ℤ pos 65536 → natural z ≤ 65536
-natural_few (pos n) h = omega (arith, ints)
-natural_few (negsuc n) h = omega arith
 
 count_few : (p : Phase) (m : Cells) (chunk u : ℕ) → WellFormed p m chunk → strand_count p m chunk u ≤ 65536
 count_few (Set l b acts) m chunk u w = omega arith

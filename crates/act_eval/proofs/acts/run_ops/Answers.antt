@@ -9,7 +9,8 @@ use Rattle.act_eval.proofs.acts.run_ops.Goals.{in-Next, in-Does}
 use Rattle.std.proofs.Common.{sym, subst, ap, ◌∙◌, arith, length-set, length-take-le, set, of_z, ◌≡◌, ℕ, ◌+◌, ◌*◌, ◌<◌, List, [], ◌∷◌, length, drop, take, ℤ, pos}
 use Rattle.std.specs.Int.{w64, cast_signed}
 use Rattle.phase_ops.specs.declared.effect.Effect.{Effect}
-use Rattle.phase_ops.specs.Phases.{over, ops_events, fault_number, Spot}
+use Rattle.ws_base.specs.Words.{fault_number}
+use Rattle.phase_ops.specs.Phases.{over, ops_events, Spot}
 use Rattle.act_eval.specs.Sites.{View, Comes, Rest, spot_of}
 use Rattle.act_eval.proofs.acts.run_ops.Goals as goal
 
