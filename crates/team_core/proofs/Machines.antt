@@ -1,5 +1,5 @@
 -- What a step leaves of what holds of a running core.
-use Rattle.std.proofs.Common.{◌≡◌, ◌⊎◌, inl, inr, ℕ, zero, suc, ◌<◌, ◌≤◌, List, [], ◌∷◌, length, get_or, set, slice_index_or, slice_set, sym, refl, ap, ◌∙◌, subst, arith, ⊎_elim, length-set, get_or-set_other, get_or-set_same}
+use Rattle.std.proofs.Common.{◌≡◌, ◌≢◌, ◌⊎◌, inl, inr, ℕ, zero, suc, ◌<◌, ◌≤◌, List, [], ◌∷◌, length, get_or, set, slice_index_or, slice_set, sym, refl, ap, ◌∙◌, subst, arith, ⊎_elim, length-set, get_or-set_other, get_or-set_same}
 use Rattle.std.specs.Prelude as std
 use mathlib.Core.Logic.{dite}
 use native.Mathlib.Decide.{ℕ_discrete}
@@ -173,6 +173,11 @@ pub rebase : (Q : ℕ → Type 0) (c c' : Course) (k k' : CoreState) (pending pe
 rebase Q c c' k k' pending pending' entered entered' ready ready' a b p e r h =
     let g : HoldsFor Q c k pending entered ready' = record { can = h.can; sound = h.sound; entered_is = λ l. let z = h.entered_is l in (z.0, r z.1); sized = h.sized; pending_is = h.pending_is } in
     subst (λ (x : Course × CoreState × List (std.Option Effect) × ℕ). HoldsFor Q x.0 x.1 x.2 x.3 ready') (λ i. (sym a i, sym b i, sym p i, sym e i)) g
+
+-- the member m has taken a step that leaves k''
+pub leaves : (c : Course) (k : CoreState) (pending : List (std.Option Effect)) (entered : ℕ) (ready : Type 0) (h : Holds c k pending entered ready) (m : ℕ) (there : m < c.team) (k' k'' : CoreState) (y : Member)
+    → k'' ≡ k' → k'.members ≡ slice_set k.members m y → SoundAt c h.sound.front k' → HoldsBut m c k'' pending entered ready
+leaves c k pending entered ready h m there k' k'' y is members sound = rebase (λ n. n ≢ m) c c k' k'' pending pending entered entered ready ready refl is refl refl (λ z. z) (moved c k pending entered ready h m there k' y members sound)
 
 -- ---- the start
 

@@ -18,19 +18,14 @@ is_past Ended = true
 
 -- a member that holds a unit
 abbrev pub is_within : MemberState → Bool
-is_within Ready = false
 is_within (Within u d) = true
-is_within Out = false
-is_within Arrived = false
-is_within Ended = false
+is_within _ = false
 
 -- a member that has arrived at the barrier
 abbrev pub is_there : MemberState → Bool
-is_there Ready = false
-is_there (Within u d) = false
-is_there Out = false
 is_there Arrived = true
 is_there Ended = true
+is_there _ = false
 
 -- the first `done u` effects of each unit below k, in order of unit
 abbrev pub laid : Work → (ℕ → ℕ) → ℕ → List Effect
