@@ -1,13 +1,12 @@
 -- What a builder holds: a module of which some regions are entered and not left.
-use Rattle.std.specs.Prelude.{◌≡◌, ℕ, suc, ◌+◌, Bool, true, false, ◌||◌, if◌then◌else◌, List, [], ◌∷◌, ◌++◌, length, Option, Some, None, bytes_eq}
+use Rattle.std.specs.Prelude.{◌≡◌, ℕ, suc, ◌+◌, Bool, false, ◌||◌, if◌then◌else◌, List, [], ◌∷◌, ◌++◌, length, Option, Some, None, bytes_eq}
 use Rattle.ws_base.specs.declared.name.Name.{Name}
 use Rattle.hlfir_ops.specs.declared.kinds.ValueKind.{ValueKind}
 use Rattle.hlfir_ops.specs.declared.what.What.{What}
-use Rattle.hlfir_ops.specs.declared.what.What.TheVariants as what
 use Rattle.hlfir_ops.specs.declared.op.ValueId.{ValueId}
 use Rattle.hlfir_ops.specs.declared.op.Op.{Op, out-Op}
 use Rattle.hlfir_ops.specs.declared.op.Region.{Region}
-use Rattle.hlfir_ops.specs.Lines.{has_line}
+pub use Rattle.hlfir_ops.specs.Sorts.{has_line, is_where}
 use Rattle.hlfir_ops.specs.Trees.{op_of, region_of}
 use Rattle.hlfir_ops.specs.Numbers.{names_in, own_numbers, numbers_of, numbers_in}
 
@@ -84,10 +83,6 @@ index_here name first (x ∷ xs) found = index_here name (suc first) xs (if byte
 abbrev pub index_around : Name → List Place → Option ValueId
 index_around name [] = None
 index_around name (p ∷ around) = index_here name (first_in (taken_around around) p) (names_at p) (index_around name around)
-
-abbrev pub is_where : What → Bool
-is_where what.Masked = true
-is_where _ = false
 
 -- some region of a WHERE is entered
 abbrev pub masked_around : List Place → Bool

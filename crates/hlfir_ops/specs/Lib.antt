@@ -11,3 +11,4 @@ pub mod RulesPlaces
 pub mod RulesRegions
 pub mod RulesStatements
 pub mod RulesValues
+pub mod Sorts

@@ -26,6 +26,7 @@ use Rattle.hlfir_ops.specs.RulesRegions.{ops_in, parts_in, first_kind, is_apply}
 
 -- An op of this sort has so many regions. The third one of a where holds its elsewheres; the first one of two of an elsewhere is its mask.
 abbrev pub has_regions : What → ℕ → Bool
+has_regions (what.Declare name) n = n == 0
 has_regions (what.Assign realloc) n = n == 2
 has_regions what.Masked n = n == 2 || n == 3
 has_regions what.Elsewhere n = n == 1 || n == 2
@@ -34,9 +35,25 @@ has_regions what.ForallMask n = n == 1
 has_regions what.Workshare n = n == 1
 has_regions what.DoLoop n = n == 2
 has_regions (what.Allocmem also) n = n == 1
+has_regions (what.Freemem also) n = n == 0
 has_regions (what.Read also) n = n == 1
+has_regions what.Yield n = n == 0
+has_regions what.YieldElement n = n == 0
+has_regions (what.Constant c) n = n == 0
+has_regions (what.Unary op) n = n == 0
+has_regions (what.Binary op) n = n == 0
+has_regions what.Select n = n == 0
+has_regions what.Load n = n == 0
+has_regions what.Boxed n = n == 0
+has_regions (what.Bound word dim) n = n == 0
+has_regions what.Size n = n == 0
+has_regions what.Allocated n = n == 0
+has_regions (what.Designate subs) n = n == 0
+has_regions what.Vector n = n == 0
+has_regions what.AsExpr n = n == 0
 has_regions what.Elemental n = n == 1
-has_regions _ n = n == 0
+has_regions what.Apply n = n == 0
+has_regions (what.Reduce r) n = n == 0
 
 -- ---- operands
 
@@ -90,11 +107,25 @@ unary_elem unary.Abs = I32
 unary_elem unary.Not = I1
 
 abbrev pub operand_elem : ValueBinary → Elem
+operand_elem binary.Add = I32
+operand_elem binary.Sub = I32
+operand_elem binary.Mul = I32
+operand_elem binary.Div = I32
+operand_elem binary.Min = I32
+operand_elem binary.Max = I32
+operand_elem binary.Pow = I32
+operand_elem binary.Mod = I32
+operand_elem binary.Modulo = I32
+operand_elem binary.Eq = I32
+operand_elem binary.Ne = I32
+operand_elem binary.Lt = I32
+operand_elem binary.Le = I32
+operand_elem binary.Gt = I32
+operand_elem binary.Ge = I32
 operand_elem binary.And = I1
 operand_elem binary.Or = I1
 operand_elem binary.Eqv = I1
 operand_elem binary.Neqv = I1
-operand_elem _ = I32
 
 -- SUM, PRODUCT, MINVAL and MAXVAL take integers, COUNT, ANY and ALL truth values.
 abbrev pub reduced_elem : Reduction → Elem
@@ -127,11 +158,20 @@ takes_dimension vs dim os = is_reference (only_kind vs os) && has_dimension dim 
 
 -- The operands of an op, of which this is said whether it stands in an elemental. Those of a yield are judged with its region.
 abbrev pub takes : Bool → List Value → What → List ValueId → List Region → Bool
-takes elemental vs what.Yield os rs = true
-takes elemental vs what.YieldElement os rs = length os == 1
+takes elemental vs (what.Declare name) os rs = length os == 0
+takes elemental vs (what.Assign realloc) os rs = length os == 0
+takes elemental vs what.Masked os rs = length os == 0
+takes elemental vs what.Elsewhere os rs = length os == 0
+takes elemental vs (what.Forall names) os rs = length os == 0
+takes elemental vs what.ForallMask os rs = length os == 0
+takes elemental vs what.Workshare os rs = length os == 0
 takes elemental vs what.DoLoop os rs = is_integer_declare (only_value vs os)
 takes elemental vs (what.Allocmem also) os rs = takes_bounds vs os rs
 takes elemental vs (what.Freemem also) os rs = is_allocatable_declare (only_value vs os)
+takes elemental vs (what.Read also) os rs = length os == 0
+takes elemental vs what.Yield os rs = true
+takes elemental vs what.YieldElement os rs = length os == 1
+takes elemental vs (what.Constant c) os rs = length os == 0
 takes elemental vs (what.Unary op) os rs = is_scalar (unary_elem op) (only_kind vs os)
 takes elemental vs (what.Binary op) os rs = are_two (operand_elem op) vs os
 takes elemental vs what.Select os rs = are_choices vs os
@@ -143,9 +183,9 @@ takes elemental vs what.Allocated os rs = is_allocatable (only_kind vs os)
 takes elemental vs (what.Designate subs) os rs = are_designator vs subs os
 takes elemental vs what.Vector os rs = are_items vs os
 takes elemental vs what.AsExpr os rs = is_reference (only_kind vs os)
+takes elemental vs what.Elemental os rs = length os == 0
 takes elemental vs what.Apply os rs = elemental && is_array (only_kind vs os)
 takes elemental vs (what.Reduce r) os rs = is_reduced r (only_kind vs os)
-takes elemental vs _ os rs = length os == 0
 
 -- A where has no third region without an elsewhere.
 abbrev pub is_filled_where : What → List Region → Bool
@@ -181,12 +221,25 @@ result_elem binary.Max = I32
 result_elem binary.Pow = I32
 result_elem binary.Mod = I32
 result_elem binary.Modulo = I32
-result_elem _ = I1
+result_elem binary.Eq = I1
+result_elem binary.Ne = I1
+result_elem binary.Lt = I1
+result_elem binary.Le = I1
+result_elem binary.Gt = I1
+result_elem binary.Ge = I1
+result_elem binary.And = I1
+result_elem binary.Or = I1
+result_elem binary.Eqv = I1
+result_elem binary.Neqv = I1
 
 abbrev pub total_elem : Reduction → Elem
+total_elem reduction.Sum = I32
+total_elem reduction.Product = I32
+total_elem reduction.Minval = I32
+total_elem reduction.Maxval = I32
+total_elem reduction.Count = I32
 total_elem reduction.Any = I1
 total_elem reduction.All = I1
-total_elem _ = I32
 
 -- a scalar of the type of this operand
 abbrev pub is_scalar_of : Option ValueKind → Option ValueKind → Bool
@@ -236,6 +289,18 @@ is_elemental_of vs ops _ _ = false
 -- The result of an op is the one that its form gives.
 abbrev pub gives : List Value → What → List ValueId → Option ValueKind → List Region → Bool
 gives vs (what.Declare name) os k rs = is_variable k
+gives vs (what.Assign realloc) os k rs = is_none k
+gives vs what.Masked os k rs = is_none k
+gives vs what.Elsewhere os k rs = is_none k
+gives vs (what.Forall names) os k rs = is_none k
+gives vs what.ForallMask os k rs = is_none k
+gives vs what.Workshare os k rs = is_none k
+gives vs what.DoLoop os k rs = is_none k
+gives vs (what.Allocmem also) os k rs = is_none k
+gives vs (what.Freemem also) os k rs = is_none k
+gives vs (what.Read also) os k rs = is_none k
+gives vs what.Yield os k rs = is_none k
+gives vs what.YieldElement os k rs = is_none k
 gives vs (what.Constant c) os k rs = has_constant c k
 gives vs (what.Unary op) os k rs = is_scalar (unary_elem op) k
 gives vs (what.Binary op) os k rs = is_scalar (result_elem op) k
@@ -251,4 +316,3 @@ gives vs what.AsExpr os k rs = is_array_of (first_kind vs os) (rank_of_kind (fir
 gives vs what.Elemental os k rs = is_elemental_of vs (ops_in rs 0) (first_kind vs (parts_in rs 0)) k
 gives vs what.Apply os k rs = is_scalar_of (first_kind vs os) k
 gives vs (what.Reduce r) os k rs = is_scalar (total_elem r) k
-gives vs _ os k rs = is_none k

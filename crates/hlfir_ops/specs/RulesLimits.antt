@@ -8,6 +8,7 @@ use Rattle.hlfir_ops.specs.declared.what.What.{What}
 use Rattle.hlfir_ops.specs.declared.what.What.TheVariants as what
 use Rattle.hlfir_ops.specs.declared.op.ValueId.{ValueId}
 use Rattle.hlfir_ops.specs.declared.op.Op.{Op, out-Op}
+pub use Rattle.hlfir_ops.specs.Sorts.{has_body}
 use Rattle.hlfir_ops.specs.RulesValues.{Value, value_at, is_whole}
 use Rattle.hlfir_ops.specs.Numbers.{order_in}
 use Rattle.hlfir_ops.specs.RulesStatements.{declares}
@@ -49,13 +50,6 @@ abbrev pub is_small : Option ValueKind → Bool
 is_small (Some (Declared e shape)) = is_small_shape shape
 is_small (Some (Allocatable e rank)) = nat_le rank rank_limit
 is_small _ = true
-
-abbrev pub has_body : What → Bool
-has_body what.Masked = true
-has_body (what.Forall names) = true
-has_body what.Workshare = true
-has_body what.DoLoop = true
-has_body _ = false
 
 -- ---- how large a statement is: the ops inside it and their operands
 
@@ -110,15 +104,57 @@ abbrev pub with_wholes : List Value → Count → List ValueId → Count
 with_wholes vs c [] = c
 with_wholes vs c (v ∷ more) = with_wholes vs (if is_whole (value_at vs v) then with_whole c else c) more
 
+-- what an op adds to the count: a mask, which an elsewhere of one region has not; an assignment; a header; a reduction; its vector subscripts
+pub data Adds : Type 0 where
+  AddsNothing : Adds
+  AddsMask : Adds
+  AddsElseMask : Adds
+  AddsAssignment : Adds
+  AddsHeader : Adds
+  AddsReduction : Adds
+  AddsWholes : Adds
+
+abbrev pub adds_of : What → Adds
+adds_of (what.Declare name) = AddsNothing
+adds_of (what.Assign realloc) = AddsAssignment
+adds_of what.Masked = AddsMask
+adds_of what.Elsewhere = AddsElseMask
+adds_of (what.Forall names) = AddsHeader
+adds_of what.ForallMask = AddsMask
+adds_of what.Workshare = AddsNothing
+adds_of what.DoLoop = AddsNothing
+adds_of (what.Allocmem also) = AddsNothing
+adds_of (what.Freemem also) = AddsNothing
+adds_of (what.Read also) = AddsNothing
+adds_of what.Yield = AddsNothing
+adds_of what.YieldElement = AddsNothing
+adds_of (what.Constant c) = AddsNothing
+adds_of (what.Unary op) = AddsNothing
+adds_of (what.Binary op) = AddsNothing
+adds_of what.Select = AddsNothing
+adds_of what.Load = AddsNothing
+adds_of what.Boxed = AddsNothing
+adds_of (what.Bound word dim) = AddsNothing
+adds_of what.Size = AddsNothing
+adds_of what.Allocated = AddsNothing
+adds_of (what.Designate subs) = AddsWholes
+adds_of what.Vector = AddsNothing
+adds_of what.AsExpr = AddsNothing
+adds_of what.Elemental = AddsNothing
+adds_of what.Apply = AddsNothing
+adds_of (what.Reduce reduction) = AddsReduction
+
+abbrev pub with_added : List Value → Count → Adds → List ValueId → ℕ → Count
+with_added vs c AddsNothing os regions = c
+with_added vs c AddsMask os regions = with_mask (after_assignment c)
+with_added vs c AddsElseMask os regions = if regions == 1 then c else with_mask (after_assignment c)
+with_added vs c AddsAssignment os regions = with_assignment (after_assignment c)
+with_added vs c AddsHeader os regions = with_header (after_assignment c)
+with_added vs c AddsReduction os regions = with_reduction c
+with_added vs c AddsWholes os regions = with_wholes vs c os
+
 abbrev pub counted_as : List Value → Count → What → List ValueId → ℕ → Count
-counted_as vs c what.Masked os regions = with_mask (after_assignment c)
-counted_as vs c what.Elsewhere os regions = if regions == 1 then c else with_mask (after_assignment c)
-counted_as vs c what.ForallMask os regions = with_mask (after_assignment c)
-counted_as vs c (what.Assign realloc) os regions = with_assignment (after_assignment c)
-counted_as vs c (what.Forall names) os regions = with_header (after_assignment c)
-counted_as vs c (what.Reduce reduction) os regions = with_reduction c
-counted_as vs c (what.Designate subs) os regions = with_wholes vs c os
-counted_as vs c _ os regions = c
+counted_as vs c w os regions = with_added vs c (adds_of w) os regions
 
 abbrev pub counted : List Value → Count → Op → Count
 counted vs c op = counted_as vs c (out-Op op).what (out-Op op).operands (length (out-Op op).regions)

@@ -1,12 +1,13 @@
 -- Where the ops of a module stand.
-use Rattle.std.specs.Prelude.{ℕ, zero, suc, ◌+◌, Bool, true, false, ◌||◌, List, [], ◌∷◌, ◌++◌, length, Option, Some, None}
+use Rattle.std.specs.Prelude.{ℕ, suc, ◌+◌, ◌==◌, Bool, true, false, ◌&&◌, ◌||◌, List, [], ◌∷◌, ◌++◌, length, Option, Some, None}
 use mathlib.Core.Former.{Count}
 use Rattle.hlfir_ops.specs.declared.kinds.ValueKind.{ValueKind}
 use Rattle.hlfir_ops.specs.declared.what.What.{What}
-use Rattle.hlfir_ops.specs.declared.what.What.TheVariants as what
 use Rattle.hlfir_ops.specs.declared.op.Op.{Op, Op', out-Op}
 use Rattle.hlfir_ops.specs.declared.op.Region.{Region, Region', out-Region}
 use Rattle.hlfir_ops.specs.declared.op.Module.{Module}
+pub use Rattle.hlfir_ops.specs.Sorts.{shares, is_elemental}
+use Rattle.hlfir_ops.specs.Sorts.{has_body, is_where, is_elsewhere, is_forall}
 use Rattle.hlfir_ops.specs.Trees.{Ops, end_ops, more_ops, Regions, end_regions, more_regions}
 use Rattle.hlfir_ops.specs.Numbers.{names_in, own_numbers, op_numbers, ops_numbers, numbers_of}
 
@@ -34,29 +35,14 @@ pub record Site : Type 0 where
 
 -- The region of this number is a body. That of an elsewhere is one of its where.
 abbrev pub is_body : What → ℕ → Bool
-is_body what.Masked (suc zero) = true
-is_body what.Elsewhere k = true
-is_body (what.Forall names) (suc zero) = true
-is_body what.DoLoop (suc zero) = true
-is_body what.Workshare k = true
-is_body w k = false
+is_body w k = is_elsewhere w || has_body w && (shares w || k == 1)
 
 abbrev pub one_if : Bool → ℕ
 one_if true = 1
 one_if false = 0
 
 abbrev pub masks : What → Bool
-masks what.Masked = true
-masks (what.Forall names) = true
-masks _ = false
-
-abbrev pub shares : What → Bool
-shares what.Workshare = true
-shares _ = false
-
-abbrev pub is_elemental : What → Bool
-is_elemental what.Elemental = true
-is_elemental _ = false
+masks w = is_where w || is_forall w
 
 -- around the ops of this region of an op
 abbrev pub around_in : Around → What → ℕ → Around

@@ -10,6 +10,7 @@ use Rattle.hlfir_ops.specs.declared.what.What.TheVariants as what
 use Rattle.hlfir_ops.specs.declared.op.ValueId.{ValueId}
 use Rattle.hlfir_ops.specs.declared.op.Op.{Op, out-Op}
 use Rattle.hlfir_ops.specs.declared.op.Region.{Region, out-Region}
+pub use Rattle.hlfir_ops.specs.Sorts.{is_yield, is_yield_element, is_apply, is_operation, is_value_op}
 use Rattle.hlfir_ops.specs.RulesValues.{Value, value_at, kind_of, kind_at, is_scalar, is_place, is_target, is_vector_designate}
 
 -- ---- the ops of regions
@@ -23,44 +24,6 @@ abbrev pub ops_in : List Region → ℕ → List Op
 ops_in regions k = ops_of (slice_get regions k)
 
 -- ---- sorts of ops
-
-abbrev pub is_yield : What → Bool
-is_yield what.Yield = true
-is_yield _ = false
-
-abbrev pub is_yield_element : What → Bool
-is_yield_element what.YieldElement = true
-is_yield_element _ = false
-
-abbrev pub is_apply : What → Bool
-is_apply what.Apply = true
-is_apply _ = false
-
--- the operations on elements
-abbrev pub is_operation : What → Bool
-is_operation (what.Unary op) = true
-is_operation (what.Binary op) = true
-is_operation what.Select = true
-is_operation _ = false
-
--- the ops that give values, without the declares
-abbrev pub is_value_op : What → Bool
-is_value_op (what.Constant c) = true
-is_value_op (what.Unary op) = true
-is_value_op (what.Binary op) = true
-is_value_op what.Select = true
-is_value_op what.Load = true
-is_value_op what.Boxed = true
-is_value_op (what.Bound word dim) = true
-is_value_op what.Size = true
-is_value_op what.Allocated = true
-is_value_op (what.Designate subs) = true
-is_value_op what.Vector = true
-is_value_op what.AsExpr = true
-is_value_op what.Elemental = true
-is_value_op what.Apply = true
-is_value_op (what.Reduce reduction) = true
-is_value_op _ = false
 
 abbrev pub gives_value : Op → Bool
 gives_value op = is_value_op (out-Op op).what

@@ -9,46 +9,11 @@ use Rattle.hlfir_ops.specs.declared.op.ValueId.{ValueId}
 use Rattle.hlfir_ops.specs.declared.op.Op.{Op, out-Op}
 use Rattle.hlfir_ops.specs.declared.op.Region.{Region, out-Region}
 use Rattle.hlfir_ops.specs.Numbers.{order_of, order_in}
+pub use Rattle.hlfir_ops.specs.Sorts.{is_declare, is_assign, is_where, is_elsewhere, is_forall, is_forall_mask, is_statement, is_whole_op, may_take_allocatable}
 use Rattle.hlfir_ops.specs.RulesValues.{Value, value_at, kind_at, same_elem, elem_of, rank_of, has_rank, is_mask, is_section, is_designate, is_allocatable_declare}
 use Rattle.hlfir_ops.specs.RulesRegions.{parts, parts_in, last_of}
 
 -- ---- sorts of statements
-
-abbrev pub is_declare : What → Bool
-is_declare (what.Declare name) = true
-is_declare _ = false
-
-abbrev pub is_assign : What → Bool
-is_assign (what.Assign realloc) = true
-is_assign _ = false
-
-abbrev pub is_where : What → Bool
-is_where what.Masked = true
-is_where _ = false
-
-abbrev pub is_elsewhere : What → Bool
-is_elsewhere what.Elsewhere = true
-is_elsewhere _ = false
-
-abbrev pub is_forall : What → Bool
-is_forall (what.Forall names) = true
-is_forall _ = false
-
-abbrev pub is_forall_mask : What → Bool
-is_forall_mask what.ForallMask = true
-is_forall_mask _ = false
-
--- what stands in the module after its declares, and in a do_loop
-abbrev pub is_statement : What → Bool
-is_statement (what.Assign realloc) = true
-is_statement what.Masked = true
-is_statement (what.Forall names) = true
-is_statement what.Workshare = true
-is_statement what.DoLoop = true
-is_statement (what.Allocmem also) = true
-is_statement (what.Freemem also) = true
-is_statement (what.Read also) = true
-is_statement _ = false
 
 abbrev pub declares : Op → Bool
 declares op = is_declare (out-Op op).what
@@ -108,12 +73,6 @@ abbrev pub is_forall_body : List Op → Bool
 is_forall_body [] = true
 is_forall_body (op ∷ ops) = (is_forall_mask (out-Op op).what || assigns op) && list_all assigns ops
 
-abbrev pub is_whole_op : What → Bool
-is_whole_op (what.Reduce reduction) = true
-is_whole_op what.Vector = true
-is_whole_op what.Elemental = true
-is_whole_op _ = false
-
 -- no reduction, vector, elemental or section
 abbrev pub works_on_scalars : Op → Bool
 works_on_scalars op = not (is_whole_op (out-Op op).what) && not (is_section (out-Op op).kind)
@@ -171,16 +130,6 @@ declares_first before (what.Declare name) = list_all declares before && not (lis
 declares_first before _ = true
 
 -- ---- uses of an allocatable's declare: by box, allocated, allocmem and freemem, and as the left side of an assignment with `realloc`
-
--- The operands of a yield are judged with its region.
-abbrev pub may_take_allocatable : What → Bool
-may_take_allocatable what.Boxed = true
-may_take_allocatable what.Allocated = true
-may_take_allocatable (what.Allocmem also) = true
-may_take_allocatable (what.Freemem also) = true
-may_take_allocatable what.Yield = true
-may_take_allocatable what.YieldElement = true
-may_take_allocatable _ = false
 
 abbrev pub no_allocatable : List Value → List ValueId → Bool
 no_allocatable vs = list_all (λ v. not (is_allocatable_declare (value_at vs v)))

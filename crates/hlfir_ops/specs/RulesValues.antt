@@ -40,9 +40,33 @@ has_vector = list_any is_vector
 
 abbrev pub source_of : What → Source
 source_of (what.Declare name) = Declares
+source_of (what.Assign realloc) = Other
+source_of what.Masked = Other
+source_of what.Elsewhere = Other
+source_of (what.Forall names) = Other
+source_of what.ForallMask = Other
+source_of what.Workshare = Other
+source_of what.DoLoop = Other
+source_of (what.Allocmem also) = Other
+source_of (what.Freemem also) = Other
+source_of (what.Read also) = Other
+source_of what.Yield = Other
+source_of what.YieldElement = Other
+source_of (what.Constant c) = Other
+source_of (what.Unary op) = Other
+source_of (what.Binary op) = Other
+source_of what.Select = Other
+source_of what.Load = Other
+source_of what.Boxed = Other
+source_of (what.Bound word dim) = Other
+source_of what.Size = Other
+source_of what.Allocated = Other
 source_of (what.Designate subs) = Designates (has_vector subs)
 source_of what.Vector = Lists
-source_of _ = Other
+source_of what.AsExpr = Other
+source_of what.Elemental = Other
+source_of what.Apply = Other
+source_of (what.Reduce r) = Other
 
 abbrev pub is_declares : Source → Bool
 is_declares Declares = true

@@ -2,11 +2,12 @@
 
 ghost use Rattle.std.specs.Prelude.{◌≡◌, ◌+◌, ◌-◌, ◌^◌, ◌<◌, length, reverse};
 ghost use Rattle.hlfir_ops.specs.Numbers.{names_in};
-ghost use Rattle.hlfir_ops.specs.Built.{index_here, index_around, is_where, masked_around, line_around};
+ghost use Rattle.hlfir_ops.specs.Built.{index_here, index_around, masked_around, line_around};
 ghost use Rattle.hlfir_ops.specs.Kept.{places, AreNumbered};
 
 use crate::entered::Entered;
 use crate::op::ValueId;
+use crate::sorts::is_where;
 use crate::what::What;
 use ws_base::Name;
 
@@ -52,15 +53,6 @@ pub fn index_of(around: &[Entered], name: &Name) -> Option<ValueId>
         found = index_in(entered.first, names_at(entered), name, found);
     }
     found
-}
-
-fn is_where(what: &What) -> bool
-    ensures { result ≡ is_where what.now }
-{
-    match what {
-        What::Masked => true,
-        _ => false,
-    }
 }
 
 /// A region of a WHERE is entered.

@@ -1,8 +1,9 @@
 //! What an op does.
 
 ghost use Rattle.std.specs.Prelude.{◌≡◌};
-ghost use Rattle.hlfir_ops.specs.Lines as lines;
+ghost use Rattle.hlfir_ops.specs.Sorts as sorts;
 
+use crate::sorts::{is_elsewhere, is_statement};
 use sqlite_items::Items;
 use ws_base::Name;
 
@@ -47,20 +48,9 @@ pub enum What {
 impl What {
     /// An op of this sort has a line of its own. Any other has that of the nearest op around it that has one.
     pub fn has_line(&self) -> bool
-        ensures { result ≡ lines.has_line self.now }
+        ensures { result ≡ sorts.has_line self.now }
     {
-        match self {
-            What::Assign { .. }
-            | What::Masked
-            | What::Elsewhere
-            | What::Forall(_)
-            | What::Workshare
-            | What::DoLoop
-            | What::Allocmem { .. }
-            | What::Freemem { .. }
-            | What::Read { .. } => true,
-            _ => false,
-        }
+        is_statement(self) || is_elsewhere(self)
     }
 }
 
