@@ -5,3 +5,5 @@ pub mod NumberedKinds
 pub mod Order
 pub mod Outward
 mod RulesRows
+pub mod Sites
+pub mod Valued
