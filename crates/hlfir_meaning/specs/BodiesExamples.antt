@@ -3,7 +3,7 @@ use Rattle.std.specs.Prelude.{[], ◌∷◌, codes}
 use Rattle.hlfir_ops.specs.declared.kinds.Elem.TheVariants.{I32}
 use Rattle.hlfir_ops.specs.declared.what.SubKind.TheVariants as sub
 use Rattle.hlfir_ops.specs.declared.what.ValueBinary.TheVariants as bin
-use Rattle.hlfir_meaning.specs.Example.{Example, example, declared, upto, constant, binary, section, vector, apply, elemental, yields, yields_element, assign}
+use Rattle.hlfir_meaning.specs.Example.{Example, example, binary, section, apply, elemental, yields_element, assign, arrays, constants, yield, fill}
 
 --     module main
 --     %0 = hlfir.declare "a" : ref<1:3xi32>
@@ -51,26 +51,12 @@ use Rattle.hlfir_meaning.specs.Example.{Example, example, declared, upto, consta
 --       hlfir.yield %0
 --     }
 unfoldable pub operations_of_one_body : Example
-operations_of_one_body = example
-    (declared (codes "a") I32 (upto 3 ∷ [])
-    ∷ declared (codes "b") I32 (upto 3 ∷ [])
-    ∷ declared (codes "c") I32 (upto 3 ∷ [])
-    ∷ declared (codes "d") I32 (upto 3 ∷ [])
-    ∷ assign 2
-    (constant 2147483647 ∷ constant 1 ∷ constant 1 ∷ vector I32 (4 ∷ 5 ∷ 6 ∷ []) ∷ yields (7 ∷ []) ∷ [])
-    (yields (1 ∷ []) ∷ [])
-    ∷ assign 3
-    (constant 1 ∷ constant 1 ∷ constant 0 ∷ vector I32 (8 ∷ 9 ∷ 10 ∷ []) ∷ yields (11 ∷ []) ∷ [])
-    (yields (2 ∷ []) ∷ [])
-    ∷ assign 4
-    (constant 1 ∷ constant 1 ∷ constant 1 ∷ vector I32 (12 ∷ 13 ∷ 14 ∷ []) ∷ yields (15 ∷ []) ∷ [])
-    (yields (3 ∷ []) ∷ [])
-    ∷ assign 5
-    (elemental I32 1 (apply I32 1 ∷ apply I32 2 ∷ binary bin.Div 17 18 ∷ apply I32 3 ∷ binary bin.Add 19 20 ∷ yields_element 21 ∷ [])
-    ∷ yields (16 ∷ []) ∷ [])
-    (yields (0 ∷ []) ∷ [])
-    ∷ [])
-    [] (codes "fault DivideByZero line 5 element 3" ∷ [])
+operations_of_one_body = example (arrays (codes "a" ∷ codes "b" ∷ codes "c" ∷ codes "d" ∷ []) 3)
+    (fill 2 4 (constants (2147483647 ∷ 1 ∷ 1 ∷ [])) 1
+    ∷ fill 3 8 (constants (1 ∷ 1 ∷ 0 ∷ [])) 2
+    ∷ fill 4 12 (constants (1 ∷ 1 ∷ 1 ∷ [])) 3
+    ∷ assign 5 (elemental I32 1 (apply I32 1 ∷ apply I32 2 ∷ binary bin.Div 17 18 ∷ apply I32 3 ∷ binary bin.Add 19 20 ∷ yields_element 21 ∷ []) ∷ yield 16)
+    (yield 0) ∷ []) [] (codes "fault DivideByZero line 5 element 3" ∷ [])
 
 --     module main
 --     %0 = hlfir.declare "a" : ref<1:2xi32>
@@ -121,27 +107,14 @@ operations_of_one_body = example
 --       hlfir.yield %0
 --     }
 unfoldable pub elemental_before_a_section : Example
-elemental_before_a_section = example
-    (declared (codes "a") I32 (upto 2 ∷ [])
-    ∷ declared (codes "b") I32 (upto 2 ∷ [])
-    ∷ declared (codes "c") I32 (upto 2 ∷ [])
-    ∷ declared (codes "d") I32 (upto 2 ∷ [])
-    ∷ declared (codes "v") I32 (upto 2 ∷ [])
-    ∷ assign 2
-    (constant 2 ∷ constant 3 ∷ vector I32 (5 ∷ 6 ∷ []) ∷ yields (7 ∷ []) ∷ [])
-    (yields (1 ∷ []) ∷ [])
-    ∷ assign 3
-    (constant 1 ∷ constant 0 ∷ vector I32 (8 ∷ 9 ∷ []) ∷ yields (10 ∷ []) ∷ [])
-    (yields (2 ∷ []) ∷ [])
-    ∷ assign 4
-    (constant 1 ∷ constant 5 ∷ vector I32 (11 ∷ 12 ∷ []) ∷ yields (13 ∷ []) ∷ [])
-    (yields (4 ∷ []) ∷ [])
+elemental_before_a_section = example (arrays (codes "a" ∷ codes "b" ∷ codes "c" ∷ codes "d" ∷ codes "v" ∷ []) 2)
+    (fill 2 5 (constants (2 ∷ 3 ∷ [])) 1
+    ∷ fill 3 8 (constants (1 ∷ 0 ∷ [])) 2
+    ∷ fill 4 11 (constants (1 ∷ 5 ∷ [])) 4
     ∷ assign 5
     (elemental I32 1 (apply I32 1 ∷ apply I32 2 ∷ binary bin.Div 15 16 ∷ yields_element 17 ∷ []) ∷ section I32 1 3 (sub.Vector ∷ []) (4 ∷ [])
-    ∷ elemental I32 1 (apply I32 18 ∷ apply I32 14 ∷ binary bin.Add 20 21 ∷ yields_element 22 ∷ []) ∷ yields (19 ∷ []) ∷ [])
-    (yields (0 ∷ []) ∷ [])
-    ∷ [])
-    [] (codes "fault DivideByZero line 5 element 2" ∷ [])
+    ∷ elemental I32 1 (apply I32 18 ∷ apply I32 14 ∷ binary bin.Add 20 21 ∷ yields_element 22 ∷ []) ∷ yield 19)
+    (yield 0) ∷ []) [] (codes "fault DivideByZero line 5 element 2" ∷ [])
 
 --     module main
 --     %0 = hlfir.declare "a" : ref<1:3xi32>
@@ -177,18 +150,9 @@ elemental_before_a_section = example
 --       hlfir.yield %0
 --     }
 unfoldable pub section_applied_twice : Example
-section_applied_twice = example
-    (declared (codes "a") I32 (upto 3 ∷ [])
-    ∷ declared (codes "v") I32 (upto 3 ∷ [])
-    ∷ assign 2
-    (constant 2 ∷ constant 3 ∷ constant 4 ∷ vector I32 (2 ∷ 3 ∷ 4 ∷ []) ∷ yields (5 ∷ []) ∷ [])
-    (yields (0 ∷ []) ∷ [])
-    ∷ assign 3
-    (constant 3 ∷ constant 1 ∷ constant 2 ∷ vector I32 (6 ∷ 7 ∷ 8 ∷ []) ∷ yields (9 ∷ []) ∷ [])
-    (yields (1 ∷ []) ∷ [])
+section_applied_twice = example (arrays (codes "a" ∷ codes "v" ∷ []) 3)
+    (fill 2 2 (constants (2 ∷ 3 ∷ 4 ∷ [])) 0
+    ∷ fill 3 6 (constants (3 ∷ 1 ∷ 2 ∷ [])) 1
     ∷ assign 4
-    (section I32 1 0 (sub.Vector ∷ []) (1 ∷ []) ∷ elemental I32 1 (apply I32 10 ∷ apply I32 10 ∷ binary bin.Mul 12 13 ∷ yields_element 14 ∷ [])
-    ∷ yields (11 ∷ []) ∷ [])
-    (yields (0 ∷ []) ∷ [])
-    ∷ [])
-    [] (codes "a(1:3) = 16 4 9" ∷ codes "v(1:3) = 3 1 2" ∷ [])
+    (section I32 1 0 (sub.Vector ∷ []) (1 ∷ []) ∷ elemental I32 1 (apply I32 10 ∷ apply I32 10 ∷ binary bin.Mul 12 13 ∷ yields_element 14 ∷ []) ∷ yield 11)
+    (yield 0) ∷ []) [] (codes "a(1:3) = 16 4 9" ∷ codes "v(1:3) = 3 1 2" ∷ [])

@@ -7,7 +7,7 @@ use Rattle.ws_space.specs.Runs.{most_steps}
 use Rattle.hlfir_ops.specs.declared.op.Op.{Op}
 use Rattle.hlfir_meaning.specs.Statements.{statement}
 use Rattle.hlfir_meaning.specs.Meaning.{meaning}
-use Rattle.hlfir_meaning.specs.Example.{Example, text_of, constant, yields, assign, workshare}
+use Rattle.hlfir_meaning.specs.Example.{Example, text_of, constant, yield, assign, workshare}
 
 -- the lines of the workshares that were entered
 abbrev pub Enters : Example → List ℕ → Type 0
@@ -27,7 +27,7 @@ EndsAfter x count = steps_at (meaning x.main (text_of x.input)).end ≡ Some cou
 
 -- a workshare of one statement
 unfoldable pub small_region : Op
-small_region = workshare 3 (assign 4 (constant 1 ∷ yields (1 ∷ []) ∷ []) (yields (0 ∷ []) ∷ []) ∷ [])
+small_region = workshare 3 (assign 4 (constant 1 ∷ yield 1) (yield 0) ∷ [])
 
 -- a state in which so many statements were counted
 unfoldable pub counted : ℕ → State

@@ -1,5 +1,5 @@
--- Words for modules that are written out: one for each op, in the order of its text. Their values are named by their numbers.
-use Rattle.std.specs.Prelude.{◌≡◌, ℕ, Bool, true, false, List, [], ◌∷◌, ◌++◌, map, Some, None, pos, neg_ℤ, codes}
+-- Words for modules that are written out, in the order of their text: one for each op, and some for the ops of a common part. Values are named by their numbers.
+use Rattle.std.specs.Prelude.{◌≡◌, ℕ, ◌+◌, Bool, true, false, List, [], ◌∷◌, ◌++◌, map, length, Some, None, pos, neg_ℤ, codes}
 use Rattle.std.specs.List.{list_all}
 use Rattle.ws_base.specs.declared.name.Name.{Name}
 use Rattle.ws_base.specs.Numbers.{truth}
@@ -25,7 +25,7 @@ use Rattle.hlfir_ops.specs.declared.op.Region.{Region, out-Region}
 use Rattle.hlfir_ops.specs.declared.op.Module.{Module}
 use Rattle.hlfir_ops.specs.Trees.{op_of, region_of}
 use Rattle.hlfir_ops.specs.Rules.{facts_of, keeps}
-use Rattle.hlfir_ops.specs.RulesPlaces.{module_sites}
+use Rattle.hlfir_ops.specs.RulesPlaces.{from_number, module_sites}
 use Rattle.hlfir_ops.specs.RulesForms.{unary_elem, result_elem, total_elem}
 use Rattle.hlfir_meaning.specs.Meaning.{meaning}
 
@@ -51,8 +51,9 @@ Reports x = report_text (ended (meaning x.main (text_of x.input)).end) ≡ text_
 abbrev pub KeepRules : List Example → Type 0
 KeepRules xs = list_all (λ x. list_all (keeps (facts_of x.main)) (module_sites x.main)) xs ≡ true
 
-abbrev pub example : List Op → List Text → List Text → Example
-example ops input report = record { main = record { name = codes "main"; ops = ops }; input = input; report = report }
+-- declares, statements, and the lines of both texts
+abbrev pub example : List Op → List Op → List Text → List Text → Example
+example declares statements input report = record { main = record { name = codes "main"; ops = declares ++ statements }; input = input; report = report }
 
 -- ---- values
 
@@ -74,8 +75,18 @@ declared x e ds = gives (what.Declare x) [] (kind.Declared e (shape_of ds))
 abbrev pub allocatable : Name → Elem → ℕ → Op
 allocatable x e rank = gives (what.Declare x) [] (kind.Allocatable e rank)
 
+-- INTEGER variables: scalars, and arrays of one dimension from 1 to this bound
+abbrev pub scalars : List Name → List Op
+scalars = map (λ x. variable x I32)
+
+abbrev pub arrays : List Name → ℕ → List Op
+arrays xs n = map (λ x. declared x I32 (upto n ∷ [])) xs
+
 abbrev pub constant : ℕ → Op
 constant n = gives (what.Constant (pos n)) [] (kind.Scalar I32)
+
+abbrev pub constants : List ℕ → List Op
+constants = map constant
 
 abbrev pub minus : ℕ → Op
 minus n = gives (what.Constant (neg_ℤ (pos n))) [] (kind.Scalar I32)
@@ -134,6 +145,19 @@ yields os = op_of what.Yield 0 (map value os) None []
 abbrev pub yields_element : ℕ → Op
 yields_element v = op_of what.YieldElement 0 (value v ∷ []) None []
 
+-- ---- ends of regions
+
+abbrev pub yield : ℕ → List Op
+yield v = yields (v ∷ []) ∷ []
+
+-- these ops, whose values have the numbers from the first one on, and a yield of them all
+abbrev pub yield_all : ℕ → List Op → List Op
+yield_all first ops = ops ++ yields (from_number first ops) ∷ []
+
+-- a part of this array of one dimension, whose triplet these three ops give
+abbrev pub part : ℕ → ℕ → List Op → List Op
+part r first triplet = triplet ++ section I32 1 r (sub.Range ∷ []) (from_number first triplet) ∷ yield (first + 3)
+
 -- ---- statements, with their lines. The ops inside them have their line too.
 
 abbrev pub with_line : ℕ → Op → Op
@@ -153,6 +177,10 @@ does w line os rs = op_of w line (map value os) None rs
 
 abbrev pub assign : ℕ → List Op → List Op → Op
 assign line right left = does (what.Assign false) line [] (region_on line right ∷ region_on line left ∷ [])
+
+-- this variable gets the constructor of the scalars that these ops give
+abbrev pub fill : ℕ → ℕ → List Op → ℕ → Op
+fill line first items x = assign line (items ++ vector I32 (from_number first items) ∷ yield (first + length items)) (yield x)
 
 abbrev pub reallocate : ℕ → List Op → List Op → Op
 reallocate line right left = does (what.Assign true) line [] (region_on line right ∷ region_on line left ∷ [])

@@ -1,10 +1,10 @@
 -- Examples: WHERE. Each stands with its source; its module, the lines of its data and those of its report follow.
-use Rattle.std.specs.Prelude.{[], ◌∷◌, codes}
+use Rattle.std.specs.Prelude.{[], ◌∷◌, ◌++◌, codes}
 use Rattle.hlfir_ops.specs.declared.kinds.Elem.TheVariants.{I32, I1}
 use Rattle.hlfir_ops.specs.declared.what.ValueUnary.TheVariants as un
 use Rattle.hlfir_ops.specs.declared.what.ValueBinary.TheVariants as bin
 use Rattle.hlfir_ops.specs.declared.what.Reduction.TheVariants as red
-use Rattle.hlfir_meaning.specs.Example.{Example, example, declared, upto, constant, minus, unary, binary, vector, apply, elemental, reduce, yields, yields_element, assign, masked, masked_else, elsewhere, otherwise, workshare}
+use Rattle.hlfir_meaning.specs.Example.{Example, example, constant, minus, unary, binary, apply, elemental, reduce, yields_element, assign, masked, masked_else, elsewhere, otherwise, workshare, arrays, constants, yield, fill}
 
 --     integer :: a(3), b(3)
 --     a = [-1, 2, -3]
@@ -65,31 +65,13 @@ use Rattle.hlfir_meaning.specs.Example.{Example, example, declared, upto, consta
 --       }
 --     }
 unfoldable pub absolute_values : Example
-absolute_values = example
-    (declared (codes "a") I32 (upto 3 ∷ [])
-    ∷ declared (codes "b") I32 (upto 3 ∷ [])
-    ∷ assign 2
-    (minus 1 ∷ constant 2 ∷ minus 3 ∷ vector I32 (2 ∷ 3 ∷ 4 ∷ []) ∷ yields (5 ∷ []) ∷ [])
-    (yields (0 ∷ []) ∷ [])
+absolute_values = example (arrays (codes "a" ∷ codes "b" ∷ []) 3)
+    (fill 2 2 (minus 1 ∷ constant 2 ∷ minus 3 ∷ []) 0
     ∷ workshare 3
-    (masked_else 4
-    (constant 0 ∷ elemental I1 1 (apply I32 0 ∷ binary bin.Lt 8 6 ∷ yields_element 9 ∷ []) ∷ yields (7 ∷ []) ∷ [])
-    (assign 5
-    (elemental I32 1 (apply I32 0 ∷ unary un.Neg 11 ∷ yields_element 12 ∷ []) ∷ yields (10 ∷ []) ∷ [])
-    (yields (0 ∷ []) ∷ [])
-    ∷ assign 6
-    (yields (0 ∷ []) ∷ [])
-    (yields (1 ∷ []) ∷ [])
-    ∷ [])
-    (otherwise 7
-    (assign 8
-    (constant 0 ∷ yields (13 ∷ []) ∷ [])
-    (yields (1 ∷ []) ∷ [])
-    ∷ [])
-    ∷ [])
-    ∷ [])
-    ∷ [])
-    [] (codes "a(1:3) = 1 2 3" ∷ codes "b(1:3) = 1 0 3" ∷ [])
+    (masked_else 4 (constant 0 ∷ elemental I1 1 (apply I32 0 ∷ binary bin.Lt 8 6 ∷ yields_element 9 ∷ []) ∷ yield 7)
+    (assign 5 (elemental I32 1 (apply I32 0 ∷ unary un.Neg 11 ∷ yields_element 12 ∷ []) ∷ yield 10) (yield 0)
+    ∷ assign 6 (yield 0) (yield 1) ∷ [])
+    (otherwise 7 (assign 8 (constant 0 ∷ yield 13) (yield 1) ∷ []) ∷ []) ∷ []) ∷ []) [] (codes "a(1:3) = 1 2 3" ∷ codes "b(1:3) = 1 0 3" ∷ [])
 
 --     integer :: a(4), b(4)
 --     a = [1, 2, 3, 4]
@@ -104,34 +86,14 @@ absolute_values = example
 --     !$omp end parallel workshare
 --     end
 unfoldable pub three_blocks : Example
-three_blocks = example
-    (declared (codes "a") I32 (upto 4 ∷ [])
-    ∷ declared (codes "b") I32 (upto 4 ∷ [])
-    ∷ assign 2
-    (constant 1 ∷ constant 2 ∷ constant 3 ∷ constant 4 ∷ vector I32 (2 ∷ 3 ∷ 4 ∷ 5 ∷ []) ∷ yields (6 ∷ []) ∷ [])
-    (yields (0 ∷ []) ∷ [])
+three_blocks = example (arrays (codes "a" ∷ codes "b" ∷ []) 4)
+    (fill 2 2 (constants (1 ∷ 2 ∷ 3 ∷ 4 ∷ [])) 0
     ∷ workshare 3
-    (masked_else 4
-    (constant 2 ∷ elemental I1 1 (apply I32 0 ∷ binary bin.Gt 9 7 ∷ yields_element 10 ∷ []) ∷ yields (8 ∷ []) ∷ [])
-    (assign 5
-    (constant 10 ∷ yields (11 ∷ []) ∷ [])
-    (yields (1 ∷ []) ∷ [])
-    ∷ [])
-    (elsewhere 6
-    (constant 1 ∷ elemental I1 1 (apply I32 0 ∷ binary bin.Gt 14 12 ∷ yields_element 15 ∷ []) ∷ yields (13 ∷ []) ∷ [])
-    (assign 7
-    (constant 20 ∷ yields (16 ∷ []) ∷ [])
-    (yields (1 ∷ []) ∷ [])
-    ∷ [])
-    ∷ otherwise 8
-    (assign 9
-    (constant 30 ∷ yields (17 ∷ []) ∷ [])
-    (yields (1 ∷ []) ∷ [])
-    ∷ [])
-    ∷ [])
-    ∷ [])
-    ∷ [])
-    [] (codes "a(1:4) = 1 2 3 4" ∷ codes "b(1:4) = 30 20 10 10" ∷ [])
+    (masked_else 4 (constant 2 ∷ elemental I1 1 (apply I32 0 ∷ binary bin.Gt 9 7 ∷ yields_element 10 ∷ []) ∷ yield 8)
+    (assign 5 (constant 10 ∷ yield 11) (yield 1) ∷ [])
+    (elsewhere 6 (constant 1 ∷ elemental I1 1 (apply I32 0 ∷ binary bin.Gt 14 12 ∷ yields_element 15 ∷ []) ∷ yield 13)
+    (assign 7 (constant 20 ∷ yield 16) (yield 1) ∷ [])
+    ∷ otherwise 8 (assign 9 (constant 30 ∷ yield 17) (yield 1) ∷ []) ∷ []) ∷ []) ∷ []) [] (codes "a(1:4) = 1 2 3 4" ∷ codes "b(1:4) = 30 20 10 10" ∷ [])
 
 --     integer :: a(3), b(3), c(3)
 --     b = [6, 7, 8]
@@ -141,25 +103,12 @@ three_blocks = example
 --     !$omp end parallel workshare
 --     end
 unfoldable pub division_only_where_allowed : Example
-division_only_where_allowed = example
-    (declared (codes "a") I32 (upto 3 ∷ [])
-    ∷ declared (codes "b") I32 (upto 3 ∷ [])
-    ∷ declared (codes "c") I32 (upto 3 ∷ [])
-    ∷ assign 2
-    (constant 6 ∷ constant 7 ∷ constant 8 ∷ vector I32 (3 ∷ 4 ∷ 5 ∷ []) ∷ yields (6 ∷ []) ∷ [])
-    (yields (1 ∷ []) ∷ [])
-    ∷ assign 3
-    (constant 2 ∷ constant 0 ∷ constant 4 ∷ vector I32 (7 ∷ 8 ∷ 9 ∷ []) ∷ yields (10 ∷ []) ∷ [])
-    (yields (2 ∷ []) ∷ [])
+division_only_where_allowed = example (arrays (codes "a" ∷ codes "b" ∷ codes "c" ∷ []) 3)
+    (fill 2 3 (constants (6 ∷ 7 ∷ 8 ∷ [])) 1
+    ∷ fill 3 7 (constants (2 ∷ 0 ∷ 4 ∷ [])) 2
     ∷ workshare 4
-    (masked 5
-    (constant 0 ∷ elemental I1 1 (apply I32 2 ∷ binary bin.Ne 13 11 ∷ yields_element 14 ∷ []) ∷ yields (12 ∷ []) ∷ [])
-    (assign 5
-    (elemental I32 1 (apply I32 1 ∷ apply I32 2 ∷ binary bin.Div 16 17 ∷ yields_element 18 ∷ []) ∷ yields (15 ∷ []) ∷ [])
-    (yields (0 ∷ []) ∷ [])
-    ∷ [])
-    ∷ [])
-    ∷ [])
+    (masked 5 (constant 0 ∷ elemental I1 1 (apply I32 2 ∷ binary bin.Ne 13 11 ∷ yields_element 14 ∷ []) ∷ yield 12)
+    (assign 5 (elemental I32 1 (apply I32 1 ∷ apply I32 2 ∷ binary bin.Div 16 17 ∷ yields_element 18 ∷ []) ∷ yield 15) (yield 0) ∷ []) ∷ []) ∷ [])
     [] (codes "a(1:3) = 3 0 2" ∷ codes "b(1:3) = 6 7 8" ∷ codes "c(1:3) = 2 0 4" ∷ [])
 
 --     integer :: a(3), b(4)
@@ -169,20 +118,10 @@ division_only_where_allowed = example
 --     end where
 --     end
 unfoldable pub assignment_of_another_shape : Example
-assignment_of_another_shape = example
-    (declared (codes "a") I32 (upto 3 ∷ [])
-    ∷ declared (codes "b") I32 (upto 4 ∷ [])
-    ∷ masked 2
-    (constant 0 ∷ elemental I1 1 (apply I32 0 ∷ binary bin.Eq 4 2 ∷ yields_element 5 ∷ []) ∷ yields (3 ∷ []) ∷ [])
-    (assign 3
-    (constant 1 ∷ yields (6 ∷ []) ∷ [])
-    (yields (0 ∷ []) ∷ [])
-    ∷ assign 4
-    (constant 2 ∷ yields (7 ∷ []) ∷ [])
-    (yields (1 ∷ []) ∷ [])
-    ∷ [])
-    ∷ [])
-    [] (codes "fault Shape line 4 element 0" ∷ [])
+assignment_of_another_shape = example (arrays (codes "a" ∷ []) 3 ++ arrays (codes "b" ∷ []) 4)
+    (masked 2 (constant 0 ∷ elemental I1 1 (apply I32 0 ∷ binary bin.Eq 4 2 ∷ yields_element 5 ∷ []) ∷ yield 3)
+    (assign 3 (constant 1 ∷ yield 6) (yield 0)
+    ∷ assign 4 (constant 2 ∷ yield 7) (yield 1) ∷ []) ∷ []) [] (codes "fault Shape line 4 element 0" ∷ [])
 
 --     integer :: a(1), b(1)
 --     a = 1
@@ -194,27 +133,15 @@ assignment_of_another_shape = example
 --     !$omp end parallel workshare
 --     end
 unfoldable pub mask_without_active_place : Example
-mask_without_active_place = example
-    (declared (codes "a") I32 (upto 1 ∷ [])
-    ∷ declared (codes "b") I32 (upto 1 ∷ [])
-    ∷ assign 2
-    (constant 1 ∷ yields (2 ∷ []) ∷ [])
-    (yields (0 ∷ []) ∷ [])
+mask_without_active_place = example (arrays (codes "a" ∷ codes "b" ∷ []) 1)
+    (assign 2 (constant 1 ∷ yield 2) (yield 0)
     ∷ workshare 3
-    (masked_else 4
-    (constant 0 ∷ elemental I1 1 (apply I32 0 ∷ binary bin.Gt 5 3 ∷ yields_element 6 ∷ []) ∷ yields (4 ∷ []) ∷ [])
-    (assign 5
-    (elemental I32 1 (apply I32 0 ∷ unary un.Neg 8 ∷ yields_element 9 ∷ []) ∷ yields (7 ∷ []) ∷ [])
-    (yields (0 ∷ []) ∷ [])
-    ∷ [])
+    (masked_else 4 (constant 0 ∷ elemental I1 1 (apply I32 0 ∷ binary bin.Gt 5 3 ∷ yields_element 6 ∷ []) ∷ yield 4)
+    (assign 5 (elemental I32 1 (apply I32 0 ∷ unary un.Neg 8 ∷ yields_element 9 ∷ []) ∷ yield 7) (yield 0) ∷ [])
     (elsewhere 6
     (constant 1 ∷ elemental I32 1 (apply I32 1 ∷ binary bin.Div 10 12 ∷ yields_element 13 ∷ []) ∷ constant 0
-    ∷ elemental I1 1 (apply I32 11 ∷ binary bin.Gt 16 14 ∷ yields_element 17 ∷ []) ∷ yields (15 ∷ []) ∷ [])
-    []
-    ∷ [])
-    ∷ [])
-    ∷ [])
-    [] (codes "a(1:1) = -1" ∷ codes "b(1:1) = 0" ∷ [])
+    ∷ elemental I1 1 (apply I32 11 ∷ binary bin.Gt 16 14 ∷ yields_element 17 ∷ []) ∷ yield 15)
+    [] ∷ []) ∷ []) ∷ []) [] (codes "a(1:1) = -1" ∷ codes "b(1:1) = 0" ∷ [])
 
 --     integer :: a(3), b(2), c(3)
 --     where (a > sum(b + c))
@@ -222,19 +149,11 @@ mask_without_active_place = example
 --     end where
 --     end
 unfoldable pub shape_in_a_sum_of_a_mask : Example
-shape_in_a_sum_of_a_mask = example
-    (declared (codes "a") I32 (upto 3 ∷ [])
-    ∷ declared (codes "b") I32 (upto 2 ∷ [])
-    ∷ declared (codes "c") I32 (upto 3 ∷ [])
-    ∷ masked 2
+shape_in_a_sum_of_a_mask = example (arrays (codes "a" ∷ []) 3 ++ arrays (codes "b" ∷ []) 2 ++ arrays (codes "c" ∷ []) 3)
+    (masked 2
     (elemental I32 1 (apply I32 1 ∷ apply I32 2 ∷ binary bin.Add 4 5 ∷ yields_element 6 ∷ []) ∷ reduce red.Sum 3
-    ∷ elemental I1 1 (apply I32 0 ∷ binary bin.Gt 9 7 ∷ yields_element 10 ∷ []) ∷ yields (8 ∷ []) ∷ [])
-    (assign 3
-    (constant 1 ∷ yields (11 ∷ []) ∷ [])
-    (yields (0 ∷ []) ∷ [])
-    ∷ [])
-    ∷ [])
-    [] (codes "fault Shape line 3 element 0" ∷ [])
+    ∷ elemental I1 1 (apply I32 0 ∷ binary bin.Gt 9 7 ∷ yields_element 10 ∷ []) ∷ yield 8)
+    (assign 3 (constant 1 ∷ yield 11) (yield 0) ∷ []) ∷ []) [] (codes "fault Shape line 3 element 0" ∷ [])
 
 --     integer :: a(4), b(4)
 --     a = [1, 2, 3, 4]
@@ -249,32 +168,10 @@ shape_in_a_sum_of_a_mask = example
 --     end where
 --     end
 unfoldable pub mask_of_masks : Example
-mask_of_masks = example
-    (declared (codes "a") I32 (upto 4 ∷ [])
-    ∷ declared (codes "b") I32 (upto 4 ∷ [])
-    ∷ assign 2
-    (constant 1 ∷ constant 2 ∷ constant 3 ∷ constant 4 ∷ vector I32 (2 ∷ 3 ∷ 4 ∷ 5 ∷ []) ∷ yields (6 ∷ []) ∷ [])
-    (yields (0 ∷ []) ∷ [])
-    ∷ masked_else 3
-    (constant 1 ∷ elemental I1 1 (apply I32 0 ∷ binary bin.Gt 9 7 ∷ yields_element 10 ∷ []) ∷ yields (8 ∷ []) ∷ [])
-    (masked_else 4
-    (constant 4 ∷ elemental I1 1 (apply I32 0 ∷ binary bin.Lt 13 11 ∷ yields_element 14 ∷ []) ∷ yields (12 ∷ []) ∷ [])
-    (assign 5
-    (constant 1 ∷ yields (15 ∷ []) ∷ [])
-    (yields (1 ∷ []) ∷ [])
-    ∷ [])
-    (otherwise 6
-    (assign 7
-    (constant 2 ∷ yields (16 ∷ []) ∷ [])
-    (yields (1 ∷ []) ∷ [])
-    ∷ [])
-    ∷ [])
-    ∷ [])
-    (otherwise 9
-    (assign 10
-    (constant 3 ∷ yields (17 ∷ []) ∷ [])
-    (yields (1 ∷ []) ∷ [])
-    ∷ [])
-    ∷ [])
-    ∷ [])
-    [] (codes "a(1:4) = 1 2 3 4" ∷ codes "b(1:4) = 3 1 1 2" ∷ [])
+mask_of_masks = example (arrays (codes "a" ∷ codes "b" ∷ []) 4)
+    (fill 2 2 (constants (1 ∷ 2 ∷ 3 ∷ 4 ∷ [])) 0
+    ∷ masked_else 3 (constant 1 ∷ elemental I1 1 (apply I32 0 ∷ binary bin.Gt 9 7 ∷ yields_element 10 ∷ []) ∷ yield 8)
+    (masked_else 4 (constant 4 ∷ elemental I1 1 (apply I32 0 ∷ binary bin.Lt 13 11 ∷ yields_element 14 ∷ []) ∷ yield 12)
+    (assign 5 (constant 1 ∷ yield 15) (yield 1) ∷ [])
+    (otherwise 6 (assign 7 (constant 2 ∷ yield 16) (yield 1) ∷ []) ∷ []) ∷ [])
+    (otherwise 9 (assign 10 (constant 3 ∷ yield 17) (yield 1) ∷ []) ∷ []) ∷ []) [] (codes "a(1:4) = 1 2 3 4" ∷ codes "b(1:4) = 3 1 1 2" ∷ [])

@@ -1,10 +1,9 @@
 -- Examples: reallocation, ALLOCATE, READ and DO. Each stands with its source; its module, the lines of its data and those of its report follow.
-use Rattle.std.specs.Prelude.{false, true, [], ◌∷◌, codes, pos}
+use Rattle.std.specs.Prelude.{false, true, [], ◌∷◌, ◌++◌, codes, pos}
 use Rattle.hlfir_ops.specs.declared.kinds.Elem.TheVariants.{I32, I1}
-use Rattle.hlfir_ops.specs.declared.what.SubKind.TheVariants as sub
 use Rattle.hlfir_ops.specs.declared.what.ValueBinary.TheVariants as bin
 use Rattle.hlfir_ops.specs.declared.what.BoundWord.TheVariants as word
-use Rattle.hlfir_meaning.specs.Example.{Example, example, variable, declared, allocatable, upto, constant, minus, binary, load, box, bound, size, element, section, vector, copy, yields, assign, reallocate, workshare, loop, allocate, free, read}
+use Rattle.hlfir_meaning.specs.Example.{Example, example, variable, declared, allocatable, constant, minus, binary, load, box, bound, size, element, copy, yields, assign, reallocate, workshare, loop, allocate, free, read, arrays, scalars, constants, yield, yield_all, part, fill}
 
 --     integer :: b(0:2)
 --     integer, allocatable :: p(:)
@@ -14,19 +13,9 @@ use Rattle.hlfir_meaning.specs.Example.{Example, example, variable, declared, al
 --     !$omp end parallel workshare
 --     end
 unfoldable pub bounds_handed_on : Example
-bounds_handed_on = example
-    (declared (codes "b") I32 (record { lower = pos 0; extent = 3 } ∷ [])
-    ∷ allocatable (codes "p") I32 1
-    ∷ assign 3
-    (constant 5 ∷ constant 6 ∷ constant 7 ∷ vector I32 (2 ∷ 3 ∷ 4 ∷ []) ∷ yields (5 ∷ []) ∷ [])
-    (yields (0 ∷ []) ∷ [])
-    ∷ workshare 4
-    (reallocate 5
-    (yields (0 ∷ []) ∷ [])
-    (yields (1 ∷ []) ∷ [])
-    ∷ [])
-    ∷ [])
-    [] (codes "b(0:2) = 5 6 7" ∷ codes "p(0:2) = 5 6 7" ∷ [])
+bounds_handed_on = example ((declared (codes "b") I32 ((record { lower = pos 0; extent = 3 }) ∷ []) ∷ []) ++ (allocatable (codes "p") I32 1 ∷ []))
+    (fill 3 2 (constants (5 ∷ 6 ∷ 7 ∷ [])) 0
+    ∷ workshare 4 (reallocate 5 (yield 0) (yield 1) ∷ []) ∷ []) [] (codes "b(0:2) = 5 6 7" ∷ codes "p(0:2) = 5 6 7" ∷ [])
 
 --     integer :: b(0:2)
 --     integer, allocatable :: p(:)
@@ -37,21 +26,9 @@ bounds_handed_on = example
 --     !$omp end parallel workshare
 --     end
 unfoldable pub bounds_of_a_section : Example
-bounds_of_a_section = example
-    (declared (codes "b") I32 (record { lower = pos 0; extent = 3 } ∷ [])
-    ∷ allocatable (codes "p") I32 1
-    ∷ assign 3
-    (constant 5 ∷ constant 6 ∷ constant 7 ∷ vector I32 (2 ∷ 3 ∷ 4 ∷ []) ∷ yields (5 ∷ []) ∷ [])
-    (yields (0 ∷ []) ∷ [])
-    ∷ workshare 4
-    (reallocate 5
-    (yields (0 ∷ []) ∷ [])
-    (yields (1 ∷ []) ∷ [])
-    ∷ reallocate 6
-    (constant 1 ∷ constant 2 ∷ constant 1 ∷ section I32 1 0 (sub.Range ∷ []) (6 ∷ 7 ∷ 8 ∷ []) ∷ yields (9 ∷ []) ∷ [])
-    (yields (1 ∷ []) ∷ [])
-    ∷ [])
-    ∷ [])
+bounds_of_a_section = example ((declared (codes "b") I32 ((record { lower = pos 0; extent = 3 }) ∷ []) ∷ []) ++ (allocatable (codes "p") I32 1 ∷ []))
+    (fill 3 2 (constants (5 ∷ 6 ∷ 7 ∷ [])) 0
+    ∷ workshare 4 (reallocate 5 (yield 0) (yield 1) ∷ reallocate 6 (part 0 6 (constants (1 ∷ 2 ∷ 1 ∷ []))) (yield 1) ∷ []) ∷ [])
     [] (codes "b(0:2) = 5 6 7" ∷ codes "p(1:2) = 6 7" ∷ [])
 
 --     integer :: b(0:2)
@@ -60,48 +37,28 @@ bounds_of_a_section = example
 --     p = (b)
 --     end
 unfoldable pub bounds_of_parentheses : Example
-bounds_of_parentheses = example
-    (declared (codes "b") I32 (record { lower = pos 0; extent = 3 } ∷ [])
-    ∷ allocatable (codes "p") I32 1
-    ∷ assign 3
-    (constant 5 ∷ constant 6 ∷ constant 7 ∷ vector I32 (2 ∷ 3 ∷ 4 ∷ []) ∷ yields (5 ∷ []) ∷ [])
-    (yields (0 ∷ []) ∷ [])
-    ∷ reallocate 4
-    (copy I32 1 0 ∷ yields (6 ∷ []) ∷ [])
-    (yields (1 ∷ []) ∷ [])
-    ∷ [])
-    [] (codes "b(0:2) = 5 6 7" ∷ codes "p(1:3) = 5 6 7" ∷ [])
+bounds_of_parentheses = example ((declared (codes "b") I32 ((record { lower = pos 0; extent = 3 }) ∷ []) ∷ []) ++ (allocatable (codes "p") I32 1 ∷ []))
+    (fill 3 2 (constants (5 ∷ 6 ∷ 7 ∷ [])) 0
+    ∷ reallocate 4 (copy I32 1 0 ∷ yield 6) (yield 1) ∷ []) [] (codes "b(0:2) = 5 6 7" ∷ codes "p(1:3) = 5 6 7" ∷ [])
 
 --     integer, allocatable :: p(:)
 --     p = 3
 --     end
 unfoldable pub scalar_to_nothing : Example
-scalar_to_nothing = example
-    (allocatable (codes "p") I32 1
-    ∷ reallocate 2
-    (constant 3 ∷ yields (1 ∷ []) ∷ [])
-    (yields (0 ∷ []) ∷ [])
-    ∷ [])
-    [] (codes "fault Unallocated line 2 element 0" ∷ [])
+scalar_to_nothing = example (allocatable (codes "p") I32 1 ∷ [])
+    (reallocate 2 (constant 3 ∷ yield 1) (yield 0) ∷ []) [] (codes "fault Unallocated line 2 element 0" ∷ [])
 
 --     integer, allocatable :: p(:)
 --     end
 unfoldable pub never_allocated : Example
-never_allocated = example
-    (allocatable (codes "p") I32 1
-    ∷ [])
-    [] (codes "p unallocated" ∷ [])
+never_allocated = example (allocatable (codes "p") I32 1 ∷ []) [] [] (codes "p unallocated" ∷ [])
 
 --     integer, allocatable :: p(:)
 --     allocate (p(65537))
 --     end
 unfoldable pub allocated_too_large : Example
-allocated_too_large = example
-    (allocatable (codes "p") I32 1
-    ∷ allocate 2 false 0
-    (constant 1 ∷ constant 65537 ∷ yields (1 ∷ 2 ∷ []) ∷ [])
-    ∷ [])
-    [] (codes "fault TooLarge line 2 element 0" ∷ [])
+allocated_too_large = example (allocatable (codes "p") I32 1 ∷ [])
+    (allocate 2 false 0 (yield_all 1 (constants (1 ∷ 65537 ∷ []))) ∷ []) [] (codes "fault TooLarge line 2 element 0" ∷ [])
 
 --     integer, allocatable :: p(:), q(:)
 --     allocate (p(0:2), q(size(p) + lbound(p, 1)))
@@ -109,49 +66,29 @@ allocated_too_large = example
 --     q = 4
 --     end
 unfoldable pub later_item_sees_the_first : Example
-later_item_sees_the_first = example
-    (allocatable (codes "p") I32 1
-    ∷ allocatable (codes "q") I32 1
-    ∷ allocate 2 false 0
-    (constant 0 ∷ constant 2 ∷ yields (2 ∷ 3 ∷ []) ∷ [])
-    ∷ allocate 2 true 1
-    (constant 1 ∷ box I32 1 0 ∷ size 5 ∷ box I32 1 0 ∷ bound word.Lbound 7 1 ∷ binary bin.Add 6 8 ∷ yields (4 ∷ 9 ∷ []) ∷ [])
+later_item_sees_the_first = example ((allocatable (codes "p") I32 1 ∷ []) ++ (allocatable (codes "q") I32 1 ∷ []))
+    (allocate 2 false 0 (yield_all 2 (constants (0 ∷ 2 ∷ [])))
+    ∷ allocate 2 true 1 (constant 1 ∷ box I32 1 0 ∷ size 5 ∷ box I32 1 0 ∷ bound word.Lbound 7 1 ∷ binary bin.Add 6 8 ∷ yields (4 ∷ 9 ∷ []) ∷ [])
     ∷ free 3 false 0
-    ∷ reallocate 4
-    (constant 4 ∷ yields (10 ∷ []) ∷ [])
-    (yields (1 ∷ []) ∷ [])
-    ∷ [])
-    [] (codes "p unallocated" ∷ codes "q(1:3) = 4 4 4" ∷ [])
+    ∷ reallocate 4 (constant 4 ∷ yield 10) (yield 1) ∷ []) [] (codes "p unallocated" ∷ codes "q(1:3) = 4 4 4" ∷ [])
 
 --     integer :: n, m
 --     read *, n
 --     read *, m
 --     end
 unfoldable pub rest_of_a_line_is_skipped : Example
-rest_of_a_line_is_skipped = example
-    (variable (codes "n") I32
-    ∷ variable (codes "m") I32
-    ∷ read 2 false
-    (yields (0 ∷ []) ∷ [])
-    ∷ read 3 false
-    (yields (1 ∷ []) ∷ [])
-    ∷ [])
-    (codes "5 6" ∷ codes "7" ∷ []) (codes "n = 5" ∷ codes "m = 7" ∷ [])
+rest_of_a_line_is_skipped = example (scalars (codes "n" ∷ codes "m" ∷ []))
+    (read 2 false (yield 0)
+    ∷ read 3 false (yield 1) ∷ []) (codes "5 6" ∷ codes "7" ∷ []) (codes "n = 5" ∷ codes "m = 7" ∷ [])
 
 --     integer :: n, m
 --     read *, n
 --     read *, m
 --     end
 unfoldable pub item_that_is_no_number : Example
-item_that_is_no_number = example
-    (variable (codes "n") I32
-    ∷ variable (codes "m") I32
-    ∷ read 2 false
-    (yields (0 ∷ []) ∷ [])
-    ∷ read 3 false
-    (yields (1 ∷ []) ∷ [])
-    ∷ [])
-    (codes "5 6" ∷ codes "x" ∷ []) (codes "fault DataBad line 3 element 1" ∷ [])
+item_that_is_no_number = example (scalars (codes "n" ∷ codes "m" ∷ []))
+    (read 2 false (yield 0)
+    ∷ read 3 false (yield 1) ∷ []) (codes "5 6" ∷ codes "x" ∷ []) (codes "fault DataBad line 3 element 1" ∷ [])
 
 --     integer :: n, a(3)
 --     logical :: t
@@ -176,32 +113,18 @@ item_that_is_no_number = example
 --       hlfir.yield %2
 --     }
 unfoldable pub later_item_reads_at_the_first : Example
-later_item_reads_at_the_first = example
-    (variable (codes "n") I32
-    ∷ declared (codes "a") I32 (upto 3 ∷ [])
-    ∷ variable (codes "t") I1
-    ∷ read 3 false
-    (yields (0 ∷ []) ∷ [])
-    ∷ read 3 true
-    (load I32 0 ∷ constant 3 ∷ constant 1 ∷ section I32 1 1 (sub.Range ∷ []) (3 ∷ 4 ∷ 5 ∷ []) ∷ yields (6 ∷ []) ∷ [])
-    ∷ read 3 true
-    (yields (2 ∷ []) ∷ [])
-    ∷ [])
-    (codes "2 7,8" ∷ codes " T 9" ∷ []) (codes "n = 2" ∷ codes "a(1:3) = 0 7 8" ∷ codes "t = T" ∷ [])
+later_item_reads_at_the_first = example (scalars (codes "n" ∷ []) ++ arrays (codes "a" ∷ []) 3 ++ (variable (codes "t") I1 ∷ []))
+    (read 3 false (yield 0)
+    ∷ read 3 true (part 1 3 (load I32 0 ∷ constant 3 ∷ constant 1 ∷ []))
+    ∷ read 3 true (yield 2) ∷ []) (codes "2 7,8" ∷ codes " T 9" ∷ []) (codes "n = 2" ∷ codes "a(1:3) = 0 7 8" ∷ codes "t = T" ∷ [])
 
 --     integer :: n, a(3)
 --     read *, n, a
 --     end
 unfoldable pub too_few_items : Example
-too_few_items = example
-    (variable (codes "n") I32
-    ∷ declared (codes "a") I32 (upto 3 ∷ [])
-    ∷ read 2 false
-    (yields (0 ∷ []) ∷ [])
-    ∷ read 2 true
-    (yields (1 ∷ []) ∷ [])
-    ∷ [])
-    (codes "1 2" ∷ codes "3" ∷ []) (codes "fault DataEnd line 2 element 4" ∷ [])
+too_few_items = example (scalars (codes "n" ∷ []) ++ arrays (codes "a" ∷ []) 3)
+    (read 2 false (yield 0)
+    ∷ read 2 true (yield 1) ∷ []) (codes "1 2" ∷ codes "3" ∷ []) (codes "fault DataEnd line 2 element 4" ∷ [])
 
 --     integer :: i, k, a(3)
 --     do i = 3, 1, -1
@@ -210,34 +133,18 @@ too_few_items = example
 --     end do
 --     end
 unfoldable pub loop_that_counts_down : Example
-loop_that_counts_down = example
-    (variable (codes "i") I32
-    ∷ variable (codes "k") I32
-    ∷ declared (codes "a") I32 (upto 3 ∷ [])
-    ∷ loop 2 0
-    (constant 3 ∷ constant 1 ∷ minus 1 ∷ yields (3 ∷ 4 ∷ 5 ∷ []) ∷ [])
-    (assign 3
-    (load I32 1 ∷ constant 1 ∷ binary bin.Add 6 7 ∷ yields (8 ∷ []) ∷ [])
-    (yields (1 ∷ []) ∷ [])
-    ∷ assign 4
-    (load I32 1 ∷ yields (9 ∷ []) ∷ [])
-    (load I32 0 ∷ element I32 2 (10 ∷ []) ∷ yields (11 ∷ []) ∷ [])
-    ∷ [])
-    ∷ [])
-    [] (codes "i = 0" ∷ codes "k = 3" ∷ codes "a(1:3) = 3 2 1" ∷ [])
+loop_that_counts_down = example (scalars (codes "i" ∷ codes "k" ∷ []) ++ arrays (codes "a" ∷ []) 3)
+    (loop 2 0 (yield_all 3 (constant 3 ∷ constant 1 ∷ minus 1 ∷ []))
+    (assign 3 (load I32 1 ∷ constant 1 ∷ binary bin.Add 6 7 ∷ yield 8) (yield 1)
+    ∷ assign 4 (load I32 1 ∷ yield 9) (load I32 0 ∷ element I32 2 (10 ∷ []) ∷ yield 11) ∷ []) ∷ []) [] (codes "i = 0" ∷ codes "k = 3" ∷ codes "a(1:3) = 3 2 1" ∷ [])
 
 --     integer :: i
 --     do i = 2147483646, 2147483647
 --     end do
 --     end
 unfoldable pub loop_that_leaves_the_range : Example
-loop_that_leaves_the_range = example
-    (variable (codes "i") I32
-    ∷ loop 2 0
-    (constant 2147483646 ∷ constant 2147483647 ∷ constant 1 ∷ yields (1 ∷ 2 ∷ 3 ∷ []) ∷ [])
-    []
-    ∷ [])
-    [] (codes "fault Overflow line 2 element 0" ∷ [])
+loop_that_leaves_the_range = example (scalars (codes "i" ∷ []))
+    (loop 2 0 (yield_all 1 (constants (2147483646 ∷ 2147483647 ∷ 1 ∷ []))) [] ∷ []) [] (codes "fault Overflow line 2 element 0" ∷ [])
 
 --     integer :: i, n, a(2)
 --     do i = 1, 3
@@ -253,25 +160,8 @@ loop_that_leaves_the_range = example
 --     !$omp end parallel
 --     end
 unfoldable pub regions_of_a_loop : Example
-regions_of_a_loop = example
-    (variable (codes "i") I32
-    ∷ variable (codes "n") I32
-    ∷ declared (codes "a") I32 (upto 2 ∷ [])
-    ∷ loop 2 0
-    (constant 1 ∷ constant 3 ∷ constant 1 ∷ yields (3 ∷ 4 ∷ 5 ∷ []) ∷ [])
-    (workshare 3
-    (assign 4
-    (load I32 1 ∷ load I32 0 ∷ binary bin.Add 6 7 ∷ yields (8 ∷ []) ∷ [])
-    (yields (1 ∷ []) ∷ [])
-    ∷ [])
-    ∷ [])
-    ∷ workshare 8
-    (assign 9
-    (load I32 1 ∷ yields (9 ∷ []) ∷ [])
-    (yields (2 ∷ []) ∷ [])
-    ∷ assign 10
-    (constant 0 ∷ yields (10 ∷ []) ∷ [])
-    (yields (1 ∷ []) ∷ [])
-    ∷ [])
-    ∷ [])
+regions_of_a_loop = example (scalars (codes "i" ∷ codes "n" ∷ []) ++ arrays (codes "a" ∷ []) 2)
+    (loop 2 0 (yield_all 3 (constants (1 ∷ 3 ∷ 1 ∷ [])))
+    (workshare 3 (assign 4 (load I32 1 ∷ load I32 0 ∷ binary bin.Add 6 7 ∷ yield 8) (yield 1) ∷ []) ∷ [])
+    ∷ workshare 8 (assign 9 (load I32 1 ∷ yield 9) (yield 2) ∷ assign 10 (constant 0 ∷ yield 10) (yield 1) ∷ []) ∷ [])
     [] (codes "i = 4" ∷ codes "n = 0" ∷ codes "a(1:2) = 6 6" ∷ [])
