@@ -55,21 +55,16 @@ flagged_law f g c mk m n os ps q x y is_x is_y a out fit_m fit_n fit_os fit_ps h
     marked_law false f g c mk m n os ps q a out fit_m fit_n fit_os fit_ps
     (sym (ap (λ z. (codes " @" ++ decimal m) ++ (z ++ (values_text form.Listed 0 os ++ (kind_part q.k ++ q.s)))) is_x) ∙ (h ∙ ap (λ z. (codes " @" ++ decimal n) ++ (z ++ (values_text form.Listed 0 ps ++ (kind_part q.l ++ q.t)))) is_y))
 
+by_flag : (x y : Bool → List ℕ) → x true ≡ y true → x false ≡ y false → (f : Bool) → x f ≡ y f
+by_flag x y t e true = t
+by_flag x y t e false = e
+
 assign-mark : (f : Bool) → mark (what.Assign f) ≡ marked f (codes " realloc")
-assign-mark true = refl
-assign-mark false = refl
+assign-mark = by_flag (λ f. mark (what.Assign f)) (λ f. marked f (codes " realloc")) refl refl
 
-allocmem-mark : (f : Bool) → mark (what.Allocmem f) ≡ marked f (codes " also")
-allocmem-mark true = refl
-allocmem-mark false = refl
-
-freemem-mark : (f : Bool) → mark (what.Freemem f) ≡ marked f (codes " also")
-freemem-mark true = refl
-freemem-mark false = refl
-
-read-mark : (f : Bool) → mark (what.Read f) ≡ marked f (codes " also")
-read-mark true = refl
-read-mark false = refl
+-- that of an op with `also`
+also-mark : (w : Bool → What) → mark (w true) ≡ codes " also" → mark (w false) ≡ [] → (f : Bool) → mark (w f) ≡ marked f (codes " also")
+also-mark w = by_flag (λ f. mark (w f)) (λ f. marked f (codes " also"))
 
 bound-then : (dim : ℕ) (v : ValueId) (s : List ℕ) → (values_text form.Listed 0 (v ∷ []) ++ codes ", " ++ decimal dim) ++ s ≡ 32 ∷ 37 ∷ (decimal v.number ++ (44 ∷ 32 ∷ (decimal dim ++ s)))
 bound-then dim v s = simp append_assoc
@@ -122,13 +117,13 @@ rest_law y (what.Forall names) p m n os ps q e a i j h =
     let r = listed_law false true form.Listed m n os ps q a refl i.line_fits j.line_fits i.operands_fit j.operands_fit h in
     (refl, r.0, r.1, r.2, r.3)
 rest_law y (what.Allocmem f) p m n os ps q e a i j h =
-    let r = flagged_law f p.flag 97 (codes "lso") m n os ps q (mark (what.Allocmem f)) (mark (what.Allocmem p.flag)) (allocmem-mark f) (allocmem-mark p.flag) a refl i.line_fits j.line_fits i.operands_fit j.operands_fit h in
+    let r = flagged_law f p.flag 97 (codes "lso") m n os ps q (mark (what.Allocmem f)) (mark (what.Allocmem p.flag)) (also-mark what.Allocmem refl refl f) (also-mark what.Allocmem refl refl p.flag) a refl i.line_fits j.line_fits i.operands_fit j.operands_fit h in
     (ap what.Allocmem r.0, r.1, r.2, r.3, r.4)
 rest_law y (what.Freemem f) p m n os ps q e a i j h =
-    let r = flagged_law f p.flag 97 (codes "lso") m n os ps q (mark (what.Freemem f)) (mark (what.Freemem p.flag)) (freemem-mark f) (freemem-mark p.flag) a refl i.line_fits j.line_fits i.operands_fit j.operands_fit h in
+    let r = flagged_law f p.flag 97 (codes "lso") m n os ps q (mark (what.Freemem f)) (mark (what.Freemem p.flag)) (also-mark what.Freemem refl refl f) (also-mark what.Freemem refl refl p.flag) a refl i.line_fits j.line_fits i.operands_fit j.operands_fit h in
     (ap what.Freemem r.0, r.1, r.2, r.3, r.4)
 rest_law y (what.Read f) p m n os ps q e a i j h =
-    let r = flagged_law f p.flag 97 (codes "lso") m n os ps q (mark (what.Read f)) (mark (what.Read p.flag)) (read-mark f) (read-mark p.flag) a refl i.line_fits j.line_fits i.operands_fit j.operands_fit h in
+    let r = flagged_law f p.flag 97 (codes "lso") m n os ps q (mark (what.Read f)) (mark (what.Read p.flag)) (also-mark what.Read refl refl f) (also-mark what.Read refl refl p.flag) a refl i.line_fits j.line_fits i.operands_fit j.operands_fit h in
     (ap what.Read r.0, r.1, r.2, r.3, r.4)
 rest_law y what.Yield p m n os ps q e a i j h =
     let r = listed_law false false y m n os ps q a e i.line_fits j.line_fits i.operands_fit j.operands_fit h in
@@ -160,45 +155,19 @@ starts_word s = not (get_or s 0 0 == 37) && starts_op s
 
 unary-starts : (op : ValueUnary) (s : List ℕ) → starts_word (word (what.Unary op) ++ s) ≡ true
 unary-starts unary.Neg s = refl
-unary-starts unary.Abs s = refl
-unary-starts unary.Not s = refl
+unary-starts _ s = refl
 
 binary-starts : (op : ValueBinary) (s : List ℕ) → starts_word (word (what.Binary op) ++ s) ≡ true
 binary-starts binary.Add s = refl
-binary-starts binary.Sub s = refl
-binary-starts binary.Mul s = refl
-binary-starts binary.Div s = refl
-binary-starts binary.Min s = refl
-binary-starts binary.Max s = refl
-binary-starts binary.Pow s = refl
-binary-starts binary.Mod s = refl
-binary-starts binary.Modulo s = refl
-binary-starts binary.Eq s = refl
-binary-starts binary.Ne s = refl
-binary-starts binary.Lt s = refl
-binary-starts binary.Le s = refl
-binary-starts binary.Gt s = refl
-binary-starts binary.Ge s = refl
-binary-starts binary.And s = refl
-binary-starts binary.Or s = refl
-binary-starts binary.Eqv s = refl
-binary-starts binary.Neqv s = refl
+binary-starts _ s = refl
 
 bound-starts : (w : BoundWord) (dim : ℕ) (s : List ℕ) → starts_word (word (what.Bound w dim) ++ s) ≡ true
 bound-starts bound.Lower dim s = refl
-bound-starts bound.Upper dim s = refl
-bound-starts bound.Lbound dim s = refl
-bound-starts bound.Ubound dim s = refl
-bound-starts bound.Extent dim s = refl
+bound-starts _ dim s = refl
 
 reduce-starts : (r : Reduction) (s : List ℕ) → starts_word (word (what.Reduce r) ++ s) ≡ true
 reduce-starts reduction.Sum s = refl
-reduce-starts reduction.Product s = refl
-reduce-starts reduction.Minval s = refl
-reduce-starts reduction.Maxval s = refl
-reduce-starts reduction.Count s = refl
-reduce-starts reduction.Any s = refl
-reduce-starts reduction.All s = refl
+reduce-starts _ s = refl
 
 word-starts : (w : What) (s : List ℕ) → starts_word (word w ++ s) ≡ true
 word-starts (what.Unary op) s = unary-starts op s
@@ -244,33 +213,7 @@ rest-spaced y w line os k s e o t = calm-spaced (values-calm form.Listed os (kin
 
 is_box-holding : (p : Held) (w : What) → is_box (holding p w) ≡ is_box w
 is_box-holding p (what.Declare name) = refl
-is_box-holding p (what.Assign realloc) = refl
-is_box-holding p what.Masked = refl
-is_box-holding p what.Elsewhere = refl
-is_box-holding p (what.Forall names) = refl
-is_box-holding p what.ForallMask = refl
-is_box-holding p what.Workshare = refl
-is_box-holding p what.DoLoop = refl
-is_box-holding p (what.Allocmem also) = refl
-is_box-holding p (what.Freemem also) = refl
-is_box-holding p (what.Read also) = refl
-is_box-holding p what.Yield = refl
-is_box-holding p what.YieldElement = refl
-is_box-holding p (what.Constant value) = refl
-is_box-holding p (what.Unary op) = refl
-is_box-holding p (what.Binary op) = refl
-is_box-holding p what.Select = refl
-is_box-holding p what.Load = refl
-is_box-holding p what.Boxed = refl
-is_box-holding p (what.Bound w dim) = refl
-is_box-holding p what.Size = refl
-is_box-holding p what.Allocated = refl
-is_box-holding p (what.Designate subs) = refl
-is_box-holding p what.Vector = refl
-is_box-holding p what.AsExpr = refl
-is_box-holding p what.Elemental = refl
-is_box-holding p what.Apply = refl
-is_box-holding p (what.Reduce r) = refl
+is_box-holding p _ = refl
 
 pub head-then : (depth : ℕ) (y : Form) (number : ℕ) (w : What) (line : ℕ) (os : List ValueId) (k : Option ValueKind) (s : List ℕ) →
     head_text depth y number w line os k ++ s ≡ indent depth ++ (result_part number k ++ (word w ++ rest_text y w line os k s))

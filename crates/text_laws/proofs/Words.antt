@@ -59,93 +59,15 @@ plain w = holding nothing w
 
 holding-own : (w : What) → holding (held w) w ≡ w
 holding-own (what.Declare name) = refl
-holding-own (what.Assign realloc) = refl
-holding-own what.Masked = refl
-holding-own what.Elsewhere = refl
-holding-own (what.Forall names) = refl
-holding-own what.ForallMask = refl
-holding-own what.Workshare = refl
-holding-own what.DoLoop = refl
-holding-own (what.Allocmem also) = refl
-holding-own (what.Freemem also) = refl
-holding-own (what.Read also) = refl
-holding-own what.Yield = refl
-holding-own what.YieldElement = refl
-holding-own (what.Constant value) = refl
-holding-own (what.Unary op) = refl
-holding-own (what.Binary op) = refl
-holding-own what.Select = refl
-holding-own what.Load = refl
-holding-own what.Boxed = refl
-holding-own (what.Bound w dim) = refl
-holding-own what.Size = refl
-holding-own what.Allocated = refl
-holding-own (what.Designate subs) = refl
-holding-own what.Vector = refl
-holding-own what.AsExpr = refl
-holding-own what.Elemental = refl
-holding-own what.Apply = refl
-holding-own (what.Reduce r) = refl
+holding-own _ = refl
 
 holding-plain : (p : Held) (w : What) → holding p (plain w) ≡ holding p w
 holding-plain p (what.Declare name) = refl
-holding-plain p (what.Assign realloc) = refl
-holding-plain p what.Masked = refl
-holding-plain p what.Elsewhere = refl
-holding-plain p (what.Forall names) = refl
-holding-plain p what.ForallMask = refl
-holding-plain p what.Workshare = refl
-holding-plain p what.DoLoop = refl
-holding-plain p (what.Allocmem also) = refl
-holding-plain p (what.Freemem also) = refl
-holding-plain p (what.Read also) = refl
-holding-plain p what.Yield = refl
-holding-plain p what.YieldElement = refl
-holding-plain p (what.Constant value) = refl
-holding-plain p (what.Unary op) = refl
-holding-plain p (what.Binary op) = refl
-holding-plain p what.Select = refl
-holding-plain p what.Load = refl
-holding-plain p what.Boxed = refl
-holding-plain p (what.Bound w dim) = refl
-holding-plain p what.Size = refl
-holding-plain p what.Allocated = refl
-holding-plain p (what.Designate subs) = refl
-holding-plain p what.Vector = refl
-holding-plain p what.AsExpr = refl
-holding-plain p what.Elemental = refl
-holding-plain p what.Apply = refl
-holding-plain p (what.Reduce r) = refl
+holding-plain p _ = refl
 
 word-plain : (w : What) → word (plain w) ≡ word w
 word-plain (what.Declare name) = refl
-word-plain (what.Assign realloc) = refl
-word-plain what.Masked = refl
-word-plain what.Elsewhere = refl
-word-plain (what.Forall names) = refl
-word-plain what.ForallMask = refl
-word-plain what.Workshare = refl
-word-plain what.DoLoop = refl
-word-plain (what.Allocmem also) = refl
-word-plain (what.Freemem also) = refl
-word-plain (what.Read also) = refl
-word-plain what.Yield = refl
-word-plain what.YieldElement = refl
-word-plain (what.Constant value) = refl
-word-plain (what.Unary op) = refl
-word-plain (what.Binary op) = refl
-word-plain what.Select = refl
-word-plain what.Load = refl
-word-plain what.Boxed = refl
-word-plain (what.Bound w dim) = refl
-word-plain what.Size = refl
-word-plain what.Allocated = refl
-word-plain (what.Designate subs) = refl
-word-plain what.Vector = refl
-word-plain what.AsExpr = refl
-word-plain what.Elemental = refl
-word-plain what.Apply = refl
-word-plain (what.Reduce r) = refl
+word-plain _ = refl
 
 -- ---- reading a word: one that begins with another stands before it
 
@@ -180,75 +102,26 @@ Read w = ((s : List ℕ) → read (word w ++ (10 ∷ s)) ≡ Some (plain w)) × 
 
 read-unary : (op : ValueUnary) → Read (what.Unary op)
 read-unary unary.Neg = ((λ s. refl), (λ s. refl))
-read-unary unary.Abs = ((λ s. refl), (λ s. refl))
-read-unary unary.Not = ((λ s. refl), (λ s. refl))
+read-unary _ = ((λ s. refl), (λ s. refl))
 
 read-binary : (op : ValueBinary) → Read (what.Binary op)
 read-binary binary.Add = ((λ s. refl), (λ s. refl))
-read-binary binary.Sub = ((λ s. refl), (λ s. refl))
-read-binary binary.Mul = ((λ s. refl), (λ s. refl))
-read-binary binary.Div = ((λ s. refl), (λ s. refl))
-read-binary binary.Min = ((λ s. refl), (λ s. refl))
-read-binary binary.Max = ((λ s. refl), (λ s. refl))
-read-binary binary.Pow = ((λ s. refl), (λ s. refl))
-read-binary binary.Mod = ((λ s. refl), (λ s. refl))
-read-binary binary.Modulo = ((λ s. refl), (λ s. refl))
-read-binary binary.Eq = ((λ s. refl), (λ s. refl))
-read-binary binary.Ne = ((λ s. refl), (λ s. refl))
-read-binary binary.Lt = ((λ s. refl), (λ s. refl))
-read-binary binary.Le = ((λ s. refl), (λ s. refl))
-read-binary binary.Gt = ((λ s. refl), (λ s. refl))
-read-binary binary.Ge = ((λ s. refl), (λ s. refl))
-read-binary binary.And = ((λ s. refl), (λ s. refl))
-read-binary binary.Or = ((λ s. refl), (λ s. refl))
-read-binary binary.Eqv = ((λ s. refl), (λ s. refl))
-read-binary binary.Neqv = ((λ s. refl), (λ s. refl))
+read-binary _ = ((λ s. refl), (λ s. refl))
 
 read-bound : (w : BoundWord) (dim : ℕ) → Read (what.Bound w dim)
 read-bound bound.Lower dim = ((λ s. refl), (λ s. refl))
-read-bound bound.Upper dim = ((λ s. refl), (λ s. refl))
-read-bound bound.Lbound dim = ((λ s. refl), (λ s. refl))
-read-bound bound.Ubound dim = ((λ s. refl), (λ s. refl))
-read-bound bound.Extent dim = ((λ s. refl), (λ s. refl))
+read-bound _ dim = ((λ s. refl), (λ s. refl))
 
 read-reduce : (r : Reduction) → Read (what.Reduce r)
 read-reduce reduction.Sum = ((λ s. refl), (λ s. refl))
-read-reduce reduction.Product = ((λ s. refl), (λ s. refl))
-read-reduce reduction.Minval = ((λ s. refl), (λ s. refl))
-read-reduce reduction.Maxval = ((λ s. refl), (λ s. refl))
-read-reduce reduction.Count = ((λ s. refl), (λ s. refl))
-read-reduce reduction.Any = ((λ s. refl), (λ s. refl))
-read-reduce reduction.All = ((λ s. refl), (λ s. refl))
+read-reduce _ = ((λ s. refl), (λ s. refl))
 
 read-word : (w : What) → Read w
-read-word (what.Declare name) = ((λ s. refl), (λ s. refl))
-read-word (what.Assign realloc) = ((λ s. refl), (λ s. refl))
-read-word what.Masked = ((λ s. refl), (λ s. refl))
-read-word what.Elsewhere = ((λ s. refl), (λ s. refl))
-read-word (what.Forall names) = ((λ s. refl), (λ s. refl))
-read-word what.ForallMask = ((λ s. refl), (λ s. refl))
-read-word what.Workshare = ((λ s. refl), (λ s. refl))
-read-word what.DoLoop = ((λ s. refl), (λ s. refl))
-read-word (what.Allocmem also) = ((λ s. refl), (λ s. refl))
-read-word (what.Freemem also) = ((λ s. refl), (λ s. refl))
-read-word (what.Read also) = ((λ s. refl), (λ s. refl))
-read-word what.Yield = ((λ s. refl), (λ s. refl))
-read-word what.YieldElement = ((λ s. refl), (λ s. refl))
-read-word (what.Constant value) = ((λ s. refl), (λ s. refl))
 read-word (what.Unary op) = read-unary op
 read-word (what.Binary op) = read-binary op
-read-word what.Select = ((λ s. refl), (λ s. refl))
-read-word what.Load = ((λ s. refl), (λ s. refl))
-read-word what.Boxed = ((λ s. refl), (λ s. refl))
 read-word (what.Bound w dim) = read-bound w dim
-read-word what.Size = ((λ s. refl), (λ s. refl))
-read-word what.Allocated = ((λ s. refl), (λ s. refl))
-read-word (what.Designate subs) = ((λ s. refl), (λ s. refl))
-read-word what.Vector = ((λ s. refl), (λ s. refl))
-read-word what.AsExpr = ((λ s. refl), (λ s. refl))
-read-word what.Elemental = ((λ s. refl), (λ s. refl))
-read-word what.Apply = ((λ s. refl), (λ s. refl))
 read-word (what.Reduce r) = read-reduce r
+read-word _ = ((λ s. refl), (λ s. refl))
 
 -- ---- words
 
