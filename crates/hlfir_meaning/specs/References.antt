@@ -48,6 +48,7 @@ bound_value Lbound d = lbound_value d
 bound_value Ubound d = ubound_value d
 bound_value Extent d = extent_value d
 
+-- what an inquiry gives; no other op is one
 abbrev pub inquired : What → VarState → Staged ℤ
 inquired (what.Bound word dim) s = do
   a ← allocated s
@@ -56,4 +57,28 @@ inquired what.Size s = do
   a ← allocated s
   scalar_of (size_value (dims a.shape) None)
 inquired what.Allocated s = Ok (truth (is_allocated s))
-inquired _ s = Ok (pos 0)
+inquired (what.Declare name) s = Ok (pos 0)
+inquired (what.Assign realloc) s = Ok (pos 0)
+inquired what.Masked s = Ok (pos 0)
+inquired what.Elsewhere s = Ok (pos 0)
+inquired (what.Forall names) s = Ok (pos 0)
+inquired what.ForallMask s = Ok (pos 0)
+inquired what.Workshare s = Ok (pos 0)
+inquired what.DoLoop s = Ok (pos 0)
+inquired (what.Allocmem also) s = Ok (pos 0)
+inquired (what.Freemem also) s = Ok (pos 0)
+inquired (what.Read also) s = Ok (pos 0)
+inquired what.Yield s = Ok (pos 0)
+inquired what.YieldElement s = Ok (pos 0)
+inquired (what.Constant c) s = Ok (pos 0)
+inquired (what.Unary op) s = Ok (pos 0)
+inquired (what.Binary op) s = Ok (pos 0)
+inquired what.Select s = Ok (pos 0)
+inquired what.Load s = Ok (pos 0)
+inquired what.Boxed s = Ok (pos 0)
+inquired (what.Designate subs) s = Ok (pos 0)
+inquired what.Vector s = Ok (pos 0)
+inquired what.AsExpr s = Ok (pos 0)
+inquired what.Elemental s = Ok (pos 0)
+inquired what.Apply s = Ok (pos 0)
+inquired (what.Reduce r) s = Ok (pos 0)
