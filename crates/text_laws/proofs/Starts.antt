@@ -108,16 +108,36 @@ abbrev pub is_elsewhere : What → Bool
 is_elsewhere what.Elsewhere = true
 is_elsewhere _ = false
 
+-- how many regions an op has, but for a where and an elsewhere, which may have more than one number of them
 abbrev form_count : What → ℕ
+form_count (what.Declare name) = 0
 form_count (what.Assign realloc) = 2
+form_count what.Masked = 0
+form_count what.Elsewhere = 0
 form_count (what.Forall names) = 2
 form_count what.ForallMask = 1
 form_count what.Workshare = 1
 form_count what.DoLoop = 2
 form_count (what.Allocmem also) = 1
+form_count (what.Freemem also) = 0
 form_count (what.Read also) = 1
+form_count what.Yield = 0
+form_count what.YieldElement = 0
+form_count (what.Constant c) = 0
+form_count (what.Unary op) = 0
+form_count (what.Binary op) = 0
+form_count what.Select = 0
+form_count what.Load = 0
+form_count what.Boxed = 0
+form_count (what.Bound w dim) = 0
+form_count what.Size = 0
+form_count what.Allocated = 0
+form_count (what.Designate subs) = 0
+form_count what.Vector = 0
+form_count what.AsExpr = 0
 form_count what.Elemental = 1
-form_count _ = 0
+form_count what.Apply = 0
+form_count (what.Reduce r) = 0
 
 pub exact_count : (w : What) (n : ℕ) → is_masked w ≡ false → is_elsewhere w ≡ false → has_regions w n ≡ true → n ≡ form_count w
 exact_count (what.Assign realloc) n p q h = eqb-true n 2 h
