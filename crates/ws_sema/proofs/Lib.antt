@@ -4,3 +4,5 @@ pub mod Blocks
 pub mod Order
 pub mod Computed
 pub mod Accepted
+pub mod NoFaults
+pub mod Grammar
