@@ -50,7 +50,7 @@ stored_at-passes b [] xs p old h o = o
 stored_at-passes b (t ∷ ts) [] p old h o = o
 stored_at-passes b (t ∷ ts) (x ∷ xs) p old h o = either b (t == p) x (stored_at ts xs p old) (All-head (Passes b) x xs h) (stored_at-passes b ts xs p old (All-tail (Passes b) x xs h) o)
 
-stored_from-passes : (b : Bool) (k : ℕ) (ts : List ℕ) (xs olds : List ℤ) → All (Passes b) xs → All (Passes b) olds → All (Passes b) (stored_from k ts xs olds)
+pub stored_from-passes : (b : Bool) (k : ℕ) (ts : List ℕ) (xs olds : List ℤ) → All (Passes b) xs → All (Passes b) olds → All (Passes b) (stored_from k ts xs olds)
 stored_from-passes b k ts xs [] h o = All-nil (Passes b)
 stored_from-passes b k ts xs (old ∷ olds) h o =
     All-cons (Passes b) (stored_at ts xs k old) (stored_from (suc k) ts xs olds) (stored_at-passes b ts xs k old h (All-head (Passes b) old olds o))

@@ -16,10 +16,11 @@ use Rattle.ws_space.specs.declared.state.ArrayValue.{ArrayValue}
 use Rattle.ws_space.specs.Shapes.{dims, place}
 use Rattle.ws_space.specs.Values.{value_at, element}
 use Rattle.ws_space.specs.Maps.{pair_value}
+use Rattle.ws_types.specs.Operations.{gives_truth}
 use Rattle.array_meaning.specs.declared.term.Term.TheVariants.{Scalar, Listed, Section', Call'}
 use Rattle.array_meaning.specs.Terms.{Terms, end_terms, more_terms, unary_term, binary_term}
 use Rattle.array_meaning.specs.Stage2.{values, all_values, columns}
-use Rattle.array_meaning.specs.Laws.{is_test, HaveType, FirstTwoHaveType, TypedTermsGiveValues}
+use Rattle.array_meaning.specs.Laws.{HaveType, FirstTwoHaveType, TypedTermsGiveValues}
 use Rattle.array_meaning.proofs.Chains.{after_each, after_fact}
 use Rattle.array_meaning.proofs.KeptValues.{Passes, zero_passes, value_at-passes, either}
 
@@ -29,7 +30,7 @@ if_in_range : (z : ℤ) (c : Bool) → in_range default_half z ≡ c → IfOk (i
 if_in_range z true e = e
 if_in_range z false e = tt
 
-exact-passes : (z : ℤ) → IfOk (exact default_half z) (Passes false)
+pub exact-passes : (z : ℤ) → IfOk (exact default_half z) (Passes false)
 exact-passes z = if_in_range z (in_range default_half z) refl
 
 unless_zero-passes : (b z : ℤ) → IfOk (unless_zero default_half b z) (Passes false)
@@ -42,11 +43,11 @@ power-passes : (a b : ℤ) → IfOk (power default_half a b) (Passes false)
 power-passes a (pos n) = exact-passes (int_pow a n)
 power-passes a (negsuc n) = let b = int_pow a (suc n) in unless_zero-passes b (int_div (pos 1) b)
 
-truth-passes : (b : Bool) → Passes true (truth b)
+pub truth-passes : (b : Bool) → Passes true (truth b)
 truth-passes true = refl
 truth-passes false = refl
 
-binary-passes : (op : BinOp) (a b : ℤ) → IfOk (binary_value default_half op a b) (Passes (is_test op))
+pub binary-passes : (op : BinOp) (a b : ℤ) → IfOk (binary_value default_half op a b) (Passes (gives_truth op))
 binary-passes Add a b = exact-passes (a +ℤ b)
 binary-passes Sub a b = exact-passes (a -ℤ b)
 binary-passes Mul a b = exact-passes (a *ℤ b)
@@ -63,17 +64,17 @@ binary-passes Or a b = truth-passes (is_true a || is_true b)
 binary-passes Eqv a b = truth-passes (int_eq a b)
 binary-passes Neqv a b = truth-passes (not (int_eq a b))
 
-pair-passes : (op : BinOp) (r : List ℤ) → IfOk (pair_value op r) (Passes (is_test op))
-pair-passes op [] = zero_passes (is_test op)
-pair-passes op (a ∷ []) = zero_passes (is_test op)
+pub pair-passes : (op : BinOp) (r : List ℤ) → IfOk (pair_value op r) (Passes (gives_truth op))
+pair-passes op [] = zero_passes (gives_truth op)
+pair-passes op (a ∷ []) = zero_passes (gives_truth op)
 pair-passes op (a ∷ b ∷ []) = binary-passes op a b
-pair-passes op (a ∷ b ∷ c ∷ r) = zero_passes (is_test op)
+pair-passes op (a ∷ b ∷ c ∷ r) = zero_passes (gives_truth op)
 
-least-passes : (b : Bool) (a : ℤ) (xs : List ℤ) → Passes b a → All (Passes b) xs → Passes b (least a xs)
+pub least-passes : (b : Bool) (a : ℤ) (xs : List ℤ) → Passes b a → All (Passes b) xs → Passes b (least a xs)
 least-passes b a [] h is = h
 least-passes b a (x ∷ xs) h is = least-passes b (int_min a x) xs (either b (int_le a x) a x h (All-head (Passes b) x xs is)) (All-tail (Passes b) x xs is)
 
-greatest-passes : (b : Bool) (a : ℤ) (xs : List ℤ) → Passes b a → All (Passes b) xs → Passes b (greatest a xs)
+pub greatest-passes : (b : Bool) (a : ℤ) (xs : List ℤ) → Passes b a → All (Passes b) xs → Passes b (greatest a xs)
 greatest-passes b a [] h is = h
 greatest-passes b a (x ∷ xs) h is = greatest-passes b (int_max a x) xs (either b (int_le a x) x a (All-head (Passes b) x xs is) h) (All-tail (Passes b) x xs is)
 
@@ -84,15 +85,15 @@ joined-passes P (Err n) rest h hs = tt
 joined-passes P (Ok y) (Ok ys) h hs = All-cons P y ys h hs
 joined-passes P (Ok y) (Err t) h hs = tt
 
-each-passes : {A B : Type 0} (Q : A → Type 0) (P : B → Type 0) (f : A → Result B FaultName) → ((x : A) → Q x → IfOk (f x) P) → (xs : List A) → All Q xs → IfOk (each f xs) (All P)
+pub each-passes : {A B : Type 0} (Q : A → Type 0) (P : B → Type 0) (f : A → Result B FaultName) → ((x : A) → Q x → IfOk (f x) P) → (xs : List A) → All Q xs → IfOk (each f xs) (All P)
 each-passes Q P f h [] is = All-nil P
 each-passes Q P f h (x ∷ xs) is = joined-passes P (f x) (each f xs) (h x (All-head Q x xs is)) (each-passes Q P f h xs (All-tail Q x xs is))
 
-each-all : {A B : Type 0} (P : B → Type 0) (f : A → Result B FaultName) → ((x : A) → IfOk (f x) P) → (xs : List A) → IfOk (each f xs) (All P)
+pub each-all : {A B : Type 0} (P : B → Type 0) (f : A → Result B FaultName) → ((x : A) → IfOk (f x) P) → (xs : List A) → IfOk (each f xs) (All P)
 each-all P f h [] = All-nil P
 each-all P f h (x ∷ xs) = joined-passes P (f x) (each f xs) (h x) (each-all P f h xs)
 
-map-all : {A B : Type 0} (P : B → Type 0) (f : A → B) → ((x : A) → P (f x)) → (xs : List A) → All P (map f xs)
+pub map-all : {A B : Type 0} (P : B → Type 0) (f : A → B) → ((x : A) → P (f x)) → (xs : List A) → All P (map f xs)
 map-all P f h [] = All-nil P
 map-all P f h (x ∷ xs) = All-cons P (f x) (map f xs) (h x) (map-all P f h xs)
 
@@ -104,13 +105,13 @@ pair_up-all P Q R join (x ∷ c) [] h is = All-nil R
 pair_up-all P Q R join (x ∷ c) (r ∷ rs) h is =
     All-cons R (x ∷ r) (pair_up c rs) (join x r (All-head P x c h) (All-head Q r rs is)) (pair_up-all P Q R join c rs (All-tail P x c h) (All-tail Q r rs is))
 
-rows-all : (b : Bool) {X : Type 0} (at : List X) (cs : List (List ℤ)) → All (All (Passes b)) cs → All (All (Passes b)) (rows at cs)
+pub rows-all : (b : Bool) {X : Type 0} (at : List X) (cs : List (List ℤ)) → All (All (Passes b)) cs → All (All (Passes b)) (rows at cs)
 rows-all b at [] is = map-all (All (Passes b)) (λ _. []) (λ _. All-nil (Passes b)) at
 rows-all b at (c ∷ cs) is =
     pair_up-all (Passes b) (All (Passes b)) (All (Passes b)) (λ x r h hs. All-cons (Passes b) x r h hs) c (rows at cs) (All-head (All (Passes b)) c cs is) (rows-all b at cs (All-tail (All (Passes b)) c cs is))
 
 -- the first two of a row, where it has them
-abbrev FirstTwo : Bool → List ℤ → Type 0
+abbrev pub FirstTwo : Bool → List ℤ → Type 0
 FirstTwo b (x ∷ y ∷ r) = Passes b x × Passes b y
 FirstTwo b _ = Unit {0}
 
@@ -120,6 +121,11 @@ First b [] = Unit {0}
 
 abbrev Any : List ℤ → Type 0
 Any r = Unit {0}
+
+pub first_two : (b : Bool) (r : List ℤ) → All (Passes b) r → FirstTwo b r
+first_two b [] is = tt
+first_two b (x ∷ []) is = tt
+first_two b (x ∷ y ∷ r) is = (All-head (Passes b) x (y ∷ r) is, All-head (Passes b) y r (All-tail (Passes b) x (y ∷ r) is))
 
 second_of : (b : Bool) (x : ℤ) (r : List ℤ) → Passes b x → First b r → FirstTwo b (x ∷ r)
 second_of b x [] h g = tt
@@ -156,39 +162,39 @@ rows_from b at (c ∷ d ∷ cs) h = rows-first_two b at c d cs h.0 h.1
 call-integer : (w : CallWord) (b : Bool) (r : List ℤ) → b ≡ false → IfOk (call_value default_half w r) (Passes false) → IfOk (call_value default_half w r) (Passes b)
 call-integer w b r e h = rw e h
 
-min-passes : (b : Bool) (r : List ℤ) → All (Passes b) r → IfOk (call_value default_half word.Min r) (Passes b)
+pub min-passes : (b : Bool) (r : List ℤ) → All (Passes b) r → IfOk (call_value default_half word.Min r) (Passes b)
 min-passes b [] is = zero_passes b
 min-passes b (a ∷ r) is = least-passes b a r (All-head (Passes b) a r is) (All-tail (Passes b) a r is)
 
-max-passes : (b : Bool) (r : List ℤ) → All (Passes b) r → IfOk (call_value default_half word.Max r) (Passes b)
+pub max-passes : (b : Bool) (r : List ℤ) → All (Passes b) r → IfOk (call_value default_half word.Max r) (Passes b)
 max-passes b [] is = zero_passes b
 max-passes b (a ∷ r) is = greatest-passes b a r (All-head (Passes b) a r is) (All-tail (Passes b) a r is)
 
-merge-passes : (b : Bool) (r : List ℤ) → FirstTwo b r → IfOk (call_value default_half word.Merge r) (Passes b)
+pub merge-passes : (b : Bool) (r : List ℤ) → FirstTwo b r → IfOk (call_value default_half word.Merge r) (Passes b)
 merge-passes b [] is = zero_passes b
 merge-passes b (t ∷ []) is = zero_passes b
 merge-passes b (t ∷ f ∷ []) is = zero_passes b
 merge-passes b (t ∷ f ∷ m ∷ []) is = either b (is_true m) t f is.0 is.1
 merge-passes b (t ∷ f ∷ m ∷ x ∷ r) is = zero_passes b
 
-abs-passes : (r : List ℤ) → IfOk (call_value default_half word.Abs r) (Passes false)
+pub abs-passes : (r : List ℤ) → IfOk (call_value default_half word.Abs r) (Passes false)
 abs-passes [] = refl
 abs-passes (a ∷ []) = exact-passes (pos (unsigned_abs a))
 abs-passes (a ∷ b ∷ r) = refl
 
-mod-passes : (r : List ℤ) → IfOk (call_value default_half word.Mod r) (Passes false)
+pub mod-passes : (r : List ℤ) → IfOk (call_value default_half word.Mod r) (Passes false)
 mod-passes [] = refl
 mod-passes (a ∷ []) = refl
 mod-passes (a ∷ b ∷ []) = unless_zero-passes b (int_rem a b)
 mod-passes (a ∷ b ∷ c ∷ r) = refl
 
-modulo-passes : (r : List ℤ) → IfOk (call_value default_half word.Modulo r) (Passes false)
+pub modulo-passes : (r : List ℤ) → IfOk (call_value default_half word.Modulo r) (Passes false)
 modulo-passes [] = refl
 modulo-passes (a ∷ []) = refl
 modulo-passes (a ∷ b ∷ []) = unless_zero-passes b (floor_rem a b)
 modulo-passes (a ∷ b ∷ c ∷ r) = refl
 
-element-passes : (b : Bool) (a : ArrayValue) (is : List ℤ) → All (Passes b) a.values → IfOk (element a is) (Passes b)
+pub element-passes : (b : Bool) (a : ArrayValue) (is : List ℤ) → All (Passes b) a.values → IfOk (element a is) (Passes b)
 element-passes b a is h = after_each _ (place (dims a.shape) is) _ (λ p. value_at-passes b a.values p h)
 
 call-all : {m : _} (b : Bool) (w : CallWord) (ts : Terms m) (at : List ℕ) → b ≡ false → ((r : List ℤ) → IfOk (call_value default_half w r) (Passes false)) →
@@ -205,7 +211,7 @@ mutual
   law b (unary_term un.Minus t) h at = rw h (after_each _ (values t at) _ (λ xs. each-all (Passes false) (unary_value default_half un.Minus) (λ x. exact-passes (neg_ℤ x)) xs))
   law b (unary_term un.Plus t) h at = after_fact (All (Passes b)) _ (values t at) _ (law b t h at) (λ xs is. each-passes (Passes b) (Passes b) (unary_value default_half un.Plus) (λ x p. p) xs is)
   law b (unary_term un.Not t) h at = rw h (after_each _ (values t at) _ (λ xs. each-all (Passes true) (unary_value default_half un.Not) (λ x. truth-passes (not (is_true x))) xs))
-  law b (binary_term op t u) h at = rw h (after_each _ (values t at) _ (λ xs. after_each _ (values u at) _ (λ ys. each-all (Passes (is_test op)) (pair_value op) (pair-passes op) (rows at (xs ∷ ys ∷ [])))))
+  law b (binary_term op t u) h at = rw h (after_each _ (values t at) _ (λ xs. after_each _ (values u at) _ (λ ys. each-all (Passes (gives_truth op)) (pair_value op) (pair-passes op) (rows at (xs ∷ ys ∷ [])))))
   law b (Call' word.Min _ ts) h at =
       after_fact (All (All (Passes b))) _ (all_values ts at) _ (all-law b ts h.1 at) (λ xs is. each-passes (All (Passes b)) (Passes b) (call_value default_half word.Min) (min-passes b) (rows at xs) (rows-all b at xs is))
   law b (Call' word.Max _ ts) h at =

@@ -16,8 +16,6 @@ use Rattle.ws_tree.specs.declared.stmt.Index.{Index}
 use Rattle.ws_tree.specs.declared.stmt.Body.{Body}
 use Rattle.ws_tree.specs.Trees.{Stmts}
 use Rattle.array_meaning.specs.declared.world.World.{World}
-use Rattle.ws_base.specs.declared.op.BinOp.{BinOp}
-use Rattle.ws_base.specs.declared.op.BinOp.TheVariants as bin
 use Rattle.ws_base.specs.declared.op.UnOp.TheVariants as un
 use Rattle.ws_base.specs.declared.op.CallWord.TheVariants as word
 use Rattle.array_meaning.specs.declared.term.Term.{Term}
@@ -27,6 +25,7 @@ use Rattle.array_meaning.specs.Stage2.{values, targets, array_of}
 use Rattle.array_meaning.specs.Stage1.{walk}
 use Rattle.array_meaning.specs.Assign.{selection, target_name, may_move, assign, carried_out}
 use Rattle.ws_types.specs.Steps.{Mask, Assignment}
+use Rattle.ws_types.specs.Operations.{gives_truth}
 use Rattle.array_meaning.specs.Where.{run_assignment, run_where}
 use Rattle.array_meaning.specs.Forall.{Combination, over, over_targets, forall_assign, run_forall}
 
@@ -173,15 +172,6 @@ ForallAssignmentKeepsWellFormed =
 
 -- ---- the values of a term have its type
 
--- relations and operators on LOGICAL give LOGICAL values, and the others INTEGER ones
-abbrev pub is_test : BinOp → Bool
-is_test bin.Add = false
-is_test bin.Sub = false
-is_test bin.Mul = false
-is_test bin.Div = false
-is_test bin.Pow = false
-is_test _ = true
-
 abbrev mutual
   -- A term of type LOGICAL, or of INTEGER. An operation's result has its type whatever its operands are, but for those that hand a value on.
   pub HasType : Bool → Term → Type 0
@@ -191,11 +181,24 @@ abbrev mutual
   HasType b (unary_term un.Minus t) = b ≡ false
   HasType b (unary_term un.Plus t) = HasType b t
   HasType b (unary_term un.Not t) = b ≡ true
-  HasType b (binary_term op t u) = b ≡ is_test op
+  HasType b (binary_term op t u) = b ≡ gives_truth op
   HasType b (term.Call' word.Min _ ts) = (b ≡ false) × HaveType b ts
   HasType b (term.Call' word.Max _ ts) = (b ≡ false) × HaveType b ts
   HasType b (term.Call' word.Merge _ ts) = FirstTwoHaveType b ts
-  HasType b (term.Call' _ _ ts) = b ≡ false
+  HasType b (term.Call' word.Abs _ ts) = b ≡ false
+  HasType b (term.Call' word.Mod _ ts) = b ≡ false
+  HasType b (term.Call' word.Modulo _ ts) = b ≡ false
+  HasType b (term.Call' word.Sum _ ts) = b ≡ false
+  HasType b (term.Call' word.Product _ ts) = b ≡ false
+  HasType b (term.Call' word.Minval _ ts) = b ≡ false
+  HasType b (term.Call' word.Maxval _ ts) = b ≡ false
+  HasType b (term.Call' word.Count _ ts) = b ≡ false
+  HasType b (term.Call' word.Any _ ts) = b ≡ false
+  HasType b (term.Call' word.All _ ts) = b ≡ false
+  HasType b (term.Call' word.Size _ ts) = b ≡ false
+  HasType b (term.Call' word.Lbound _ ts) = b ≡ false
+  HasType b (term.Call' word.Ubound _ ts) = b ≡ false
+  HasType b (term.Call' word.Allocated _ ts) = b ≡ false
 
   pub HaveType : {m : _} → Bool → Terms m → Type 0
   HaveType b end_terms = Unit {0}

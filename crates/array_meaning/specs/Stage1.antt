@@ -150,7 +150,7 @@ abbrev pub dimension : Option ℕ → ℕ
 dimension None = 1
 dimension (Some k) = k
 
--- SIZE, LBOUND, UBOUND and ALLOCATED of a variable, and of a dimension
+-- SIZE, LBOUND, UBOUND and ALLOCATED of a variable, and of a dimension; no other word is an inquiry
 abbrev pub inquired : CallWord → VarState → Option ℕ → Staged ℤ
 inquired word.Size s k = do
   a ← allocated s
@@ -162,7 +162,19 @@ inquired word.Ubound s k = do
   a ← allocated s
   scalar_of (ubound_value (dim_at (dims a.shape) (dimension k)))
 inquired word.Allocated s k = Ok (truth (is_allocated s))
-inquired _ s k = Ok (pos 0)
+inquired word.Abs s k = Ok (pos 0)
+inquired word.Mod s k = Ok (pos 0)
+inquired word.Modulo s k = Ok (pos 0)
+inquired word.Min s k = Ok (pos 0)
+inquired word.Max s k = Ok (pos 0)
+inquired word.Merge s k = Ok (pos 0)
+inquired word.Sum s k = Ok (pos 0)
+inquired word.Product s k = Ok (pos 0)
+inquired word.Minval s k = Ok (pos 0)
+inquired word.Maxval s k = Ok (pos 0)
+inquired word.Count s k = Ok (pos 0)
+inquired word.Any s k = Ok (pos 0)
+inquired word.All s k = Ok (pos 0)
 
 abbrev pub name_in : {m : _} → Exprs m → Name
 name_in (more_exprs (Named x) es) = x
