@@ -25,7 +25,7 @@ use Rattle.array_meaning.specs.Stage1.{constant_of, named, walk, unary_on, binar
 use Rattle.array_meaning.specs.Forall.{scalar}
 use Rattle.array_meaning.specs.Program.{constants_alone}
 use Rattle.term_eval.specs.Limits.{IsSmall}
-use Rattle.small_laws.proofs.NoFaults.{none_first, none_after, impossible}
+use Rattle.ws_sema.proofs.NoFaults.{none_first, none_after, impossible}
 
 -- where it is a value, this holds of it
 abbrev pub IfValue : Constancy → (ℤ → Type 0) → Type 0

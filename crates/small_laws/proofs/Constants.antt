@@ -13,7 +13,7 @@ use Rattle.ws_sema.specs.Declarations.{is_declared, constant_row, constants_from
 use Rattle.array_meaning.specs.declared.world.Constant.{Constant}
 use Rattle.array_meaning.specs.Stage1.{constant_of}
 use Rattle.array_meaning.specs.Program.{staged_or, constant_value, declaring}
-use Rattle.small_laws.proofs.NoFaults.{left_false, right_false}
+use Rattle.ws_sema.proofs.NoFaults.{left_false, right_false}
 use Rattle.small_laws.proofs.Constancy.{IfValue, Agree, IsComputed, computed, scalar_is}
 
 -- no constant has a name that was not declared

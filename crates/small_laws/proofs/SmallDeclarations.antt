@@ -20,7 +20,7 @@ use Rattle.array_meaning.specs.Forall.{scalar}
 use Rattle.array_meaning.specs.Program.{constants_alone, bound_dim, bound_dims, staged_or, declared_dims, declaring}
 use Rattle.term_eval.specs.Limits.{IsSmall}
 use Rattle.small_laws.specs.Small.{IsSmallOption, IsSmallBound, AreDims, IsSmallDecl, AreSmallDecls}
-use Rattle.small_laws.proofs.NoFaults.{none_first, none_after, not_broken, impossible, left_false, right_false}
+use Rattle.ws_sema.proofs.NoFaults.{none_first, none_after, not_broken, impossible, left_false, right_false}
 use Rattle.small_laws.proofs.Constancy.{Agree, IsComputed, computed, scalar_is, truth_small, valued}
 use Rattle.small_laws.proofs.Constants.{HasOnly, agree_after, only_after}
 use Rattle.small_laws.proofs.Tables.{declared_rank}

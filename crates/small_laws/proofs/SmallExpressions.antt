@@ -19,7 +19,7 @@ use Rattle.ws_types.specs.Expressions.{listed, faults, all_faults, subs_faults, 
 use Rattle.ws_types.specs.Lists as lists
 use Rattle.term_eval.specs.Limits.{IsSmall, AreSmall, AreSmallSubs, IsSmallPart}
 use Rattle.small_laws.specs.Small.{IsSmallOption}
-use Rattle.small_laws.proofs.NoFaults.{none_first, none_after, not_broken, impossible}
+use Rattle.ws_sema.proofs.NoFaults.{none_first, none_after, not_broken, impossible}
 
 -- ---- constructors
 

@@ -16,7 +16,7 @@ use Rattle.ws_types.specs.Tables.{inner}
 use Rattle.ws_sema.specs.declared.within.Within.{Within}
 use Rattle.ws_sema.specs.Declarations.{is_some, is_empty, is_left_out, shape_faults, decls_faults, with_constant, table_of}
 use Rattle.ws_sema.specs.Statements.{is_other_bounds, allocatable_faults, variable_faults, loop_faults, activated, with_active}
-use Rattle.small_laws.proofs.NoFaults.{none_first, none_after, not_broken, impossible, left_false}
+use Rattle.ws_sema.proofs.NoFaults.{none_first, none_after, not_broken, impossible, left_false}
 
 pub record IsArrayEntry (e : Entry) : Type 0 where
   pub narrow : e.rank ≤ 3
