@@ -1,5 +1,6 @@
 pub mod Extents
 pub mod Headers
+pub mod Seen
 pub mod Blocks
 pub mod Order
 pub mod Computed

@@ -1,4 +1,5 @@
 pub mod Declarations
+pub mod Seen
 pub mod Statements
 pub mod Checks
 pub mod Examples

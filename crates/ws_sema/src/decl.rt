@@ -1,10 +1,13 @@
 //! The rules on declarations.
 
-ghost use Rattle.std.specs.Prelude.{◌≡◌, ◌≤◌, ◌*◌, min, Some, [], ◌∷◌, ◌++◌, IfOk, OnOk, map};
+ghost use Rattle.std.specs.Prelude.{◌≡◌, ◌≤◌, ◌*◌, ◌||◌, min, Some, [], ◌∷◌, ◌++◌, IfOk, OnOk, map, bytes_eq};
 ghost use Rattle.ws_types.specs.Kinds.{least_from};
+ghost use Rattle.ws_types.specs.Names.{Name};
 ghost use Rattle.ws_sema.specs.Declarations as declarations;
+ghost use Rattle.ws_sema.specs.Seen.{holds};
 
 use std::alloc::{AllocError, Global};
+use std::collections::BTreeSet;
 use ws_base::{Name, Refusal, RefusalKind};
 use ws_tree::{Bound, Decl, Expr, is_keyword};
 use ws_types::{
@@ -21,24 +24,22 @@ const RANK_LIMIT: usize = 3;
 /// The greatest number of elements of a declared array.
 const ELEMENT_LIMIT: u64 = 65_536;
 
-fn is_declared(decls: &[Decl], name: &Name) -> bool
-    ensures { result ≡ declarations.is_declared decls.now name.now }
+/// Takes note of a name, and tells whether it was noted before.
+fn is_seen<'a>(seen: &mut BTreeSet<&'a str>, name: &'a str) -> Result<bool, AllocError>
+    ensures before { IfOk result (λ b. b ≡ holds seen.old name.now) }
+    ensures noted { OnOk result ((x : Name) → holds seen.new x ≡ (bytes_eq name.now x || holds seen.old x)) }
 {
-    'each: for decl in decls {
-        if decl.name == *name {
-            return true;
-        }
-    }
-    false
+    let new = seen.insert(name)?;
+    Ok(!new)
 }
 
 /// The name is no keyword, is declared once, and is one of at most 64.
 #[tactic(auto, using(ws_types::proofs::Appended::least_rules), unfolding(crate::specs::Declarations::heading_faults))]
-fn check_heading(found: &mut Option<Refusal>, before: &[Decl], decl: &Decl)
+fn check_heading(found: &mut Option<Refusal>, before: &[Decl], again: bool, decl: &Decl)
+    requires { again ≡ declarations.is_declared before.now decl.now.name }
     ensures { found.new ≡ least_from found.old (declarations.heading_faults before.now decl.now) }
 {
     let keyword = is_keyword(decl.name.as_str().as_bytes());
-    let again = is_declared(before, &decl.name);
     let many = NAME_LIMIT <= before.len();
     note(found, keyword, decl.line, RefusalKind::Unsupported);
     note(found, again, decl.line, RefusalKind::Redeclared);
@@ -208,10 +209,17 @@ fn check_shape(found: &mut Option<Refusal>, constants: &[Constant], decl: &Decl)
 }
 
 #[tactic(auto, using(ws_types::proofs::Appended::least_rules))]
-fn check_decl(found: &mut Option<Refusal>, before: &[Decl], constants: &[Constant], decl: &Decl)
+fn check_decl(
+    found: &mut Option<Refusal>,
+    before: &[Decl],
+    again: bool,
+    constants: &[Constant],
+    decl: &Decl,
+)
+    requires { again ≡ declarations.is_declared before.now decl.now.name }
     ensures { found.new ≡ least_from found.old (declarations.decl_faults before.now constants.now decl.now) }
 {
-    check_heading(found, before, decl);
+    check_heading(found, before, again, decl);
     check_value(found, constants, decl.line, decl.truth, &decl.constant);
     check_bounds(
         found,
@@ -268,9 +276,11 @@ pub fn check_decls(
     ensures faults { OnOk result (found.new ≡ least_from found.old (declarations.decls_faults [] [] decls.now)) }
 {
     let mut constants = Vec::new(alloc);
+    let mut seen = BTreeSet::new(alloc);
     'each: for i in 0..decls.len() {
         let decl = &decls[i];
-        check_decl(found, &decls[..i], constants.as_slice(), decl);
+        let again = is_seen(&mut seen, decl.name.as_str())?;
+        check_decl(found, &decls[..i], again, constants.as_slice(), decl);
         keep(
             alloc,
             &mut constants,
