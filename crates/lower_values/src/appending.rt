@@ -53,6 +53,20 @@ pub fn give(
     Ok(Operand { value, kind })
 }
 
+/// Appends an op of one operand that gives a value of this kind.
+pub fn give_of(
+    alloc: Global,
+    build: &mut Builder,
+    what: What,
+    x: Operand,
+    kind: ValueKind,
+) -> Result<Operand, AllocError>
+    ensures { IfOk result (λ y. (names : Names) → lowerings.Appends names (lowerings.giving what (x.value ∷ []) kind) build.old build.new y) }
+{
+    let operands = Items::from_slice(alloc, &[x.value])?;
+    give(alloc, build, what, operands, kind)
+}
+
 /// Appends an op that gives no value, on the line of its place.
 pub fn act(
     alloc: Global,

@@ -8,7 +8,7 @@ ghost use Rattle.lower_values.specs.declared.names.Names.{Names};
 ghost use Rattle.lower_values.specs.Lowerings.{Appends};
 ghost use Rattle.lower_values.specs.Operations as operations;
 
-use crate::appending::{act, begin, give, values_of};
+use crate::appending::{act, begin, give, give_of, values_of};
 use crate::operand::Operand;
 use hlfir_ops::{Builder, Elem, Reduction, ValueBinary, ValueIdList, ValueKind, ValueUnary, What};
 use sqlite_items::Items;
@@ -119,9 +119,8 @@ fn at_position(alloc: Global, build: &mut Builder, x: Operand) -> Result<Operand
     if rank_of(x.kind) == 0 {
         Ok(x)
     } else {
-        let operands = Items::from_slice(alloc, &[x.value])?;
         let kind = ValueKind::Scalar(elem_of(x.kind));
-        give(alloc, build, What::Apply, operands, kind)
+        give_of(alloc, build, What::Apply, x, kind)
     }
 }
 
@@ -287,14 +286,8 @@ fn as_expr(
 ) -> Result<Operand, AllocError>
     ensures { IfOk result (λ y. (names : Names) → Appends names (operations.as_expr x elem rank) build.old build.new y) }
 {
-    let operands = Items::from_slice(alloc, &[x.value])?;
-    give(
-        alloc,
-        build,
-        What::AsExpr,
-        operands,
-        ValueKind::Array { elem, rank },
-    )
+    let kind = ValueKind::Array { elem, rank };
+    give_of(alloc, build, What::AsExpr, x, kind)
 }
 
 /// The value of a whole array. Any other operand stays as it is.

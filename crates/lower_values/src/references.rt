@@ -9,7 +9,7 @@ ghost use Rattle.lower_values.specs.declared.names.Names.{Names};
 ghost use Rattle.lower_values.specs.Lowerings.{Appends};
 ghost use Rattle.lower_values.specs.References as references;
 
-use crate::appending::give;
+use crate::appending::{give, give_of};
 use crate::elementals::{elem_of, rank_of, truth_constant};
 use crate::names::{NamedTruth, Names, Variable};
 use crate::operand::{Operand, Subscript};
@@ -56,14 +56,8 @@ pub fn boxed(alloc: Global, build: &mut Builder, declare: Operand) -> Result<Ope
 {
     match declare.kind {
         ValueKind::Allocatable { elem, rank } => {
-            let operands = Items::from_slice(alloc, &[declare.value])?;
-            give(
-                alloc,
-                build,
-                What::Boxed,
-                operands,
-                ValueKind::Allocatable { elem, rank },
-            )
+            let kind = ValueKind::Allocatable { elem, rank };
+            give_of(alloc, build, What::Boxed, declare, kind)
         }
         _ => Ok(declare),
     }
@@ -87,8 +81,7 @@ pub fn loaded(alloc: Global, build: &mut Builder, place: Operand) -> Result<Oper
 {
     match place.kind {
         ValueKind::Place(elem) => {
-            let operands = Items::from_slice(alloc, &[place.value])?;
-            give(alloc, build, What::Load, operands, ValueKind::Scalar(elem))
+            give_of(alloc, build, What::Load, place, ValueKind::Scalar(elem))
         }
         _ => Ok(place),
     }
@@ -269,14 +262,8 @@ pub fn bound(
 ) -> Result<Operand, AllocError>
     ensures { IfOk result (λ x. (names : Names) → Appends names (references.bound word dim array) build.old build.new x) }
 {
-    let operands = Items::from_slice(alloc, &[array.value])?;
-    give(
-        alloc,
-        build,
-        What::Bound { word, dim },
-        operands,
-        ValueKind::Scalar(Elem::I32),
-    )
+    let kind = ValueKind::Scalar(Elem::I32);
+    give_of(alloc, build, What::Bound { word, dim }, array, kind)
 }
 
 // ---- SIZE, LBOUND, UBOUND and ALLOCATED
@@ -309,9 +296,8 @@ fn size(
 {
     match dim {
         None => {
-            let operands = Items::from_slice(alloc, &[array.value])?;
             let kind = ValueKind::Scalar(Elem::I32);
-            give(alloc, build, What::Size, operands, kind)
+            give_of(alloc, build, What::Size, array, kind)
         }
         Some(dim) => bound(alloc, build, BoundWord::Extent, dim, array),
     }
@@ -356,9 +342,8 @@ fn bound_or_size(
 fn is_allocated(alloc: Global, build: &mut Builder, declare: Operand) -> Result<Operand, AllocError>
     ensures { IfOk result (λ x. (names : Names) → Appends names (references.is_allocated declare) build.old build.new x) }
 {
-    let operands = Items::from_slice(alloc, &[declare.value])?;
     let kind = ValueKind::Scalar(Elem::I1);
-    give(alloc, build, What::Allocated, operands, kind)
+    give_of(alloc, build, What::Allocated, declare, kind)
 }
 
 fn is_allocated_word(word: CallWord) -> bool

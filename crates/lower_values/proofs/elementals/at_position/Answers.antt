@@ -9,7 +9,7 @@ use Rattle.lower_values.proofs.elementals.at_position.Goals as goal
 pub returns-then-rank_of-eq0 : goal.returns-then-rank_of-eq0
 returns-then-rank_of-eq0 c = λ names. appends-by (sym (at_position-scalar c.args.x (sym c.rank_of.ensures ∙ c.if-rank_of-eq0.true))) refl (appends-done names c.args.build.now c.args.x)
 
-pub returns-in_ok-operands : goal.returns-in_ok-operands
-returns-in_ok-operands c =
-    let spelled = ap (λ os. giving what.Apply os (Scalar c.elem_of.result)) c.in_ok-operands.ensures ∙ ap (λ e. giving what.Apply (c.args.x.value ∷ []) (Scalar e)) c.elem_of.ensures in
-    if-by c.give.result c.args.build.now c.give.new.build (spelled ∙ sym (at_position-array c.args.x (λ none. c.if-rank_of-eq0.false (c.rank_of.ensures ∙ none)))) c.give.ensures
+pub returns-else-rank_of-eq0 : goal.returns-else-rank_of-eq0
+returns-else-rank_of-eq0 c =
+    let spelled = ap (λ e. giving what.Apply (c.args.x.value ∷ []) (Scalar e)) c.elem_of.ensures in
+    if-by c.give_of.result c.args.build.now c.give_of.new.build (spelled ∙ sym (at_position-array c.args.x (λ none. c.if-rank_of-eq0.false (c.rank_of.ensures ∙ none)))) c.give_of.ensures

@@ -1,17 +1,12 @@
-use Rattle.std.proofs.Common.{refl, sym, ap, ◌∙◌}
-use Rattle.hlfir_ops.specs.declared.kinds.ValueKind.TheVariants.{Allocatable}
-use Rattle.hlfir_ops.specs.declared.what.What.TheVariants as what
-use Rattle.lower_values.specs.Lowerings.{giving}
+use Rattle.std.proofs.Common.{refl, sym, ap}
 use Rattle.lower_values.specs.References.{box_of, boxed}
 use Rattle.lower_values.proofs.Appended.{appends-by, appends-done, if-by}
 use Rattle.lower_values.proofs.Named.{box_of-other}
 use Rattle.lower_values.proofs.references.boxed.Goals as goal
 
-pub returns-in_ok-operands-in-Allocatable : goal.returns-in_ok-operands-in-Allocatable
+pub returns-in-Allocatable : goal.returns-in-Allocatable
 unfolding boxed
-returns-in_ok-operands-in-Allocatable c =
-    let spelled = ap (λ os. giving what.Boxed os (Allocatable c.in-Allocatable.elem c.in-Allocatable.rank)) c.in_ok-operands-in-Allocatable.ensures in
-    if-by c.give.result c.args.build.now c.give.new.build (spelled ∙ ap (λ k. box_of k c.args.declare) (sym c.in-Allocatable.is)) c.give.ensures
+returns-in-Allocatable c = if-by c.give_of.result c.args.build.now c.give_of.new.build (ap (λ k. box_of k c.args.declare) (sym c.in-Allocatable.is)) c.give_of.ensures
 
 pub returns-in_default : goal.returns-in_default
 unfolding boxed
