@@ -116,7 +116,21 @@ unary_operation un.Not x = operation (what.Unary unary.Not) I1 (x ∷ [])
 abbrev pub nesting_of : CallWord → Option ValueBinary
 nesting_of word.Min = Some binary.Min
 nesting_of word.Max = Some binary.Max
-nesting_of w = None
+nesting_of word.Abs = None
+nesting_of word.Mod = None
+nesting_of word.Modulo = None
+nesting_of word.Merge = None
+nesting_of word.Sum = None
+nesting_of word.Product = None
+nesting_of word.Minval = None
+nesting_of word.Maxval = None
+nesting_of word.Count = None
+nesting_of word.Any = None
+nesting_of word.All = None
+nesting_of word.Size = None
+nesting_of word.Lbound = None
+nesting_of word.Ubound = None
+nesting_of word.Allocated = None
 
 abbrev pub joined : ValueBinary → Option Operand → Operand → Lowering Operand
 joined op None y = done y
@@ -130,14 +144,36 @@ reduction_of word.Maxval = Some reduction.Maxval
 reduction_of word.Count = Some reduction.Count
 reduction_of word.Any = Some reduction.Any
 reduction_of word.All = Some reduction.All
-reduction_of w = None
+reduction_of word.Abs = None
+reduction_of word.Mod = None
+reduction_of word.Modulo = None
+reduction_of word.Min = None
+reduction_of word.Max = None
+reduction_of word.Merge = None
+reduction_of word.Size = None
+reduction_of word.Lbound = None
+reduction_of word.Ubound = None
+reduction_of word.Allocated = None
 
 -- the op of any other call that is no inquiry: MERGE is a select
 abbrev pub what_of : CallWord → What
 what_of word.Abs = what.Unary unary.Abs
 what_of word.Mod = what.Binary binary.Mod
 what_of word.Modulo = what.Binary binary.Modulo
-what_of w = what.Select
+what_of word.Min = what.Select
+what_of word.Max = what.Select
+what_of word.Merge = what.Select
+what_of word.Sum = what.Select
+what_of word.Product = what.Select
+what_of word.Minval = what.Select
+what_of word.Maxval = what.Select
+what_of word.Count = what.Select
+what_of word.Any = what.Select
+what_of word.All = what.Select
+what_of word.Size = what.Select
+what_of word.Lbound = what.Select
+what_of word.Ubound = what.Select
+what_of word.Allocated = what.Select
 
 -- the type of the first of them
 abbrev pub first_elem : List Operand → Elem
@@ -146,7 +182,22 @@ first_elem (x ∷ xs) = elem_of x.kind
 
 abbrev pub call_elem : CallWord → List Operand → Elem
 call_elem word.Merge xs = first_elem xs
-call_elem w xs = I32
+call_elem word.Abs xs = I32
+call_elem word.Mod xs = I32
+call_elem word.Modulo xs = I32
+call_elem word.Min xs = I32
+call_elem word.Max xs = I32
+call_elem word.Sum xs = I32
+call_elem word.Product xs = I32
+call_elem word.Minval xs = I32
+call_elem word.Maxval xs = I32
+call_elem word.Count xs = I32
+call_elem word.Any xs = I32
+call_elem word.All xs = I32
+call_elem word.Size xs = I32
+call_elem word.Lbound xs = I32
+call_elem word.Ubound xs = I32
+call_elem word.Allocated xs = I32
 
 abbrev pub total : Reduction → List Operand → Lowering Operand
 total r xs = giving (what.Reduce r) (values_of xs) (Scalar (total_elem r))

@@ -143,7 +143,21 @@ dimension (Some dim) = dim
 abbrev pub bound_word : CallWord → Option BoundWord
 bound_word word.Lbound = Some Lbound
 bound_word word.Ubound = Some Ubound
-bound_word w = None
+bound_word word.Abs = None
+bound_word word.Mod = None
+bound_word word.Modulo = None
+bound_word word.Min = None
+bound_word word.Max = None
+bound_word word.Merge = None
+bound_word word.Sum = None
+bound_word word.Product = None
+bound_word word.Minval = None
+bound_word word.Maxval = None
+bound_word word.Count = None
+bound_word word.Any = None
+bound_word word.All = None
+bound_word word.Size = None
+bound_word word.Allocated = None
 
 -- LBOUND or UBOUND, or SIZE
 abbrev pub bound_or_size : Option BoundWord → Option ℕ → Operand → Lowering Operand
