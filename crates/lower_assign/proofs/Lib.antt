@@ -1,2 +1,3 @@
 pub mod BoundsListed
 pub mod Lefts
+pub mod Declares

@@ -94,29 +94,17 @@ pub fn left(
     left_of(alloc, build, names, by_box, e)
 }
 
-/// A left side, and its yield.
-pub fn yield_left(
+/// A left side or an item of READ, and its yield. `by_box` says whether a whole allocatable is its box.
+pub fn yield_designator(
     alloc: Global,
     build: &mut Builder,
     names: &Names,
+    by_box: bool,
     e: &Expr,
 ) -> Result<(), AllocError>
-    ensures { OnOk result (lowerings.Appends names.now (statements.yielded (statements.left e.now)) build.old build.new tt) }
+    ensures { OnOk result (lowerings.Appends names.now (statements.yielded (statements.left_of by_box e.now)) build.old build.new tt) }
 {
-    let x = left(alloc, build, names, e)?;
-    yielded(alloc, build, x)
-}
-
-/// An item of READ, and its yield.
-pub fn yield_item(
-    alloc: Global,
-    build: &mut Builder,
-    names: &Names,
-    e: &Expr,
-) -> Result<(), AllocError>
-    ensures { OnOk result (lowerings.Appends names.now (statements.yielded (statements.item e.now)) build.old build.new tt) }
-{
-    let x = left_of(alloc, build, names, true, e)?;
+    let x = left_of(alloc, build, names, by_box, e)?;
     yielded(alloc, build, x)
 }
 

@@ -1,11 +1,11 @@
 //! The statements that hold no others.
 
-ghost use Rattle.std.specs.Prelude.{◌≡◌, not, ◌&&◌, IfOk, OnOk};
+ghost use Rattle.std.specs.Prelude.{◌≡◌, ℕ, ⊤, Bool, not, ◌&&◌, IfOk, OnOk};
 ghost use Rattle.lower_values.specs.declared.names.Names.{Names};
 ghost use Rattle.lower_values.specs.Lowerings as lowerings;
 ghost use Rattle.lower_assign.specs.Statements as statements;
 
-use crate::sides::{is_whole_allocatable, yield_item, yield_left, yield_value};
+use crate::sides::{is_whole_allocatable, yield_designator, yield_value};
 use hlfir_ops::{Builder, ValueIdList, What};
 use lower_values::{Names, act, begin, declare_of, number_constant, value};
 use sqlite_items::Items;
@@ -38,12 +38,13 @@ fn assignment(
     yield_value(alloc, build, names, right)?;
     build.leave_region();
     build.enter_region()?;
-    yield_left(alloc, build, names, left)?;
+    let by_box = build.masked();
+    yield_designator(alloc, build, names, by_box, left)?;
     build.leave_region();
     Ok(())
 }
 
-// ---- ALLOCATE and DEALLOCATE
+// ---- the bounds of ALLOCATE
 
 /// The lower and the upper bound. The lower bound of `u` is 1.
 fn bounds_of(
@@ -97,113 +98,98 @@ fn yield_bounds(
     act(alloc, build, What::Yield, values)
 }
 
-/// One array of ALLOCATE (Fortran 2018, 9.7.1). One after the first of its statement has `also`.
-fn allocation(
-    alloc: Global,
-    build: &mut Builder,
-    names: &Names,
-    line: u32,
-    also: bool,
-    part: &Part,
-) -> Result<(), AllocError>
-    ensures { OnOk result (lowerings.Appends names.now (statements.allocation line also part.now) build.old build.new tt) }
-{
-    let declare = declare_of(names, &part.name);
-    let operands = Items::from_slice(alloc, &[declare.value])?;
-    begin(alloc, build, What::Allocmem { also }, line, operands, None)?;
-    build.enter_region()?;
-    yield_bounds(alloc, build, names, part.shape.as_slice())?;
-    build.leave_region();
-    Ok(())
+// ---- an op for each item of ALLOCATE, DEALLOCATE and READ
+
+/// An item of a statement. One after the first of its statement has `also`.
+trait Item {
+    ghost lowering: { ℕ → Bool → Self → lowerings.Lowering ⊤ };
+
+    /// Appends the op of the item.
+    fn lower(
+        &self,
+        alloc: Global,
+        build: &mut Builder,
+        names: &Names,
+        line: u32,
+        also: bool,
+    ) -> Result<(), AllocError>
+        ensures { OnOk result (lowerings.Appends names.now (lowering line also self.now) build.old build.new tt) };
 }
 
-/// One array of DEALLOCATE (Fortran 2018, 9.7.3).
-fn deallocation(
-    alloc: Global,
-    build: &mut Builder,
-    names: &Names,
-    line: u32,
-    also: bool,
-    name: &Name,
-) -> Result<(), AllocError>
-    ensures { OnOk result (lowerings.Appends names.now (statements.deallocation line also name.now) build.old build.new tt) }
-{
-    let declare = declare_of(names, name);
-    let operands = Items::from_slice(alloc, &[declare.value])?;
-    begin(alloc, build, What::Freemem { also }, line, operands, None)?;
-    Ok(())
-}
+/// An array of ALLOCATE (Fortran 2018, 9.7.1).
+impl Item for Part {
+    ghost lowering = { statements.allocation };
 
-// ---- READ
-
-/// One item of READ (Fortran 2018, 12.6.3).
-fn reading(
-    alloc: Global,
-    build: &mut Builder,
-    names: &Names,
-    line: u32,
-    also: bool,
-    e: &Expr,
-) -> Result<(), AllocError>
-    ensures { OnOk result (lowerings.Appends names.now (statements.reading line also e.now) build.old build.new tt) }
-{
-    begin(
-        alloc,
-        build,
-        What::Read { also },
-        line,
-        Items::new(alloc),
-        None,
-    )?;
-    build.enter_region()?;
-    yield_item(alloc, build, names, e)?;
-    build.leave_region();
-    Ok(())
-}
-
-// ---- all items of a statement
-
-fn allocations(
-    alloc: Global,
-    build: &mut Builder,
-    names: &Names,
-    line: u32,
-    parts: &[Part],
-) -> Result<(), AllocError>
-    ensures { OnOk result (lowerings.Appends names.now (statements.each_item (statements.allocation line) parts.now) build.old build.new tt) }
-{
-    'each: for i in 0..parts.len() {
-        allocation(alloc, build, names, line, 0 < i, &parts[i])?;
+    fn lower(
+        &self,
+        alloc: Global,
+        build: &mut Builder,
+        names: &Names,
+        line: u32,
+        also: bool,
+    ) -> Result<(), AllocError> {
+        let declare = declare_of(names, &self.name);
+        let operands = Items::from_slice(alloc, &[declare.value])?;
+        begin(alloc, build, What::Allocmem { also }, line, operands, None)?;
+        build.enter_region()?;
+        yield_bounds(alloc, build, names, self.shape.as_slice())?;
+        build.leave_region();
+        Ok(())
     }
-    Ok(())
 }
 
-fn deallocations(
-    alloc: Global,
-    build: &mut Builder,
-    names: &Names,
-    line: u32,
-    arrays: &[Name],
-) -> Result<(), AllocError>
-    ensures { OnOk result (lowerings.Appends names.now (statements.each_item (statements.deallocation line) arrays.now) build.old build.new tt) }
-{
-    'each: for i in 0..arrays.len() {
-        deallocation(alloc, build, names, line, 0 < i, &arrays[i])?;
+/// An array of DEALLOCATE (Fortran 2018, 9.7.3).
+impl Item for Name {
+    ghost lowering = { statements.deallocation };
+
+    fn lower(
+        &self,
+        alloc: Global,
+        build: &mut Builder,
+        names: &Names,
+        line: u32,
+        also: bool,
+    ) -> Result<(), AllocError> {
+        let declare = declare_of(names, self);
+        let operands = Items::from_slice(alloc, &[declare.value])?;
+        begin(alloc, build, What::Freemem { also }, line, operands, None)?;
+        Ok(())
     }
-    Ok(())
 }
 
-fn readings(
+/// An item of READ (Fortran 2018, 12.6.3).
+impl Item for Expr {
+    ghost lowering = { statements.reading };
+
+    fn lower(
+        &self,
+        alloc: Global,
+        build: &mut Builder,
+        names: &Names,
+        line: u32,
+        also: bool,
+    ) -> Result<(), AllocError> {
+        let what = What::Read { also };
+        begin(alloc, build, what, line, Items::new(alloc), None)?;
+        build.enter_region()?;
+        yield_designator(alloc, build, names, true, self)?;
+        build.leave_region();
+        Ok(())
+    }
+}
+
+/// All items of a statement.
+fn each_item<T: Item>(
     alloc: Global,
     build: &mut Builder,
     names: &Names,
     line: u32,
-    items: &[Expr],
+    items: &[T],
 ) -> Result<(), AllocError>
-    ensures { OnOk result (lowerings.Appends names.now (statements.each_item (statements.reading line) items.now) build.old build.new tt) }
+    ensures { OnOk result (lowerings.Appends names.now (statements.each_item (T.lowering line) items.now) build.old build.new tt) }
 {
     'each: for i in 0..items.len() {
-        reading(alloc, build, names, line, 0 < i, &items[i])?;
+        items[i].lower(alloc, build, names, line, 0 < i)?;
     }
     Ok(())
 }
@@ -221,9 +207,9 @@ pub fn plain(
 {
     match body {
         Body::Assign { left, right } => assignment(alloc, build, names, line, left, right),
-        Body::Allocate(parts) => allocations(alloc, build, names, line, parts.as_slice()),
-        Body::Deallocate(arrays) => { deallocations(alloc, build, names, line, arrays.as_slice()) }
-        Body::Read(items) => readings(alloc, build, names, line, items.as_slice()),
+        Body::Allocate(parts) => each_item(alloc, build, names, line, parts.as_slice()),
+        Body::Deallocate(arrays) => each_item(alloc, build, names, line, arrays.as_slice()),
+        Body::Read(items) => each_item(alloc, build, names, line, items.as_slice()),
         Body::Masked { .. }
         | Body::Forall { .. }
         | Body::Loop { .. }

@@ -1,9 +1,9 @@
 use Rattle.std.proofs.Common.{refl, sym, ap, ◌∙◌}
-use Rattle.lower_values.specs.References.{nothing, declare_of}
+use Rattle.lower_values.specs.References.{declare_of}
 use Rattle.lower_assign.specs.Statements.{left_of, whole_left}
 use Rattle.lower_values.specs.Lists as lists
-use Rattle.lower_assign.proofs.Lefts.{left_of-part, left_of-other}
-use Rattle.lower_values.proofs.Appended.{appends-by, appends-done, appends-scoped, if-map}
+use Rattle.lower_assign.proofs.Lefts.{left_of-part, appends-other}
+use Rattle.lower_values.proofs.Appended.{appends-by, appends-scoped, if-map}
 use Rattle.lower_assign.proofs.sides.left_of.Goals as goal
 
 pub returns-in-Named : goal.returns-in-Named
@@ -22,28 +22,28 @@ returns-in-Part c =
     if-map c.part.result (λ r h. appends-by (ap (lists.part x) c.as_slice.ensures ∙ (sym (left_of-part b x c.in-Part.subs) ∙ ap (left_of b) (sym c.in-Part.is))) refl h) c.part.ensures
 
 pub returns-in-Number : goal.returns-in-Number
-returns-in-Number c = appends-by (sym (left_of-other c.args.by_box c.in-Number.is)) refl (appends-done c.args.names.now c.args.build.now nothing)
+returns-in-Number c = appends-other c.args.names.now c.args.by_box c.args.build.now c.in-Number.is
 
 pub returns-in-Number-2 : goal.returns-in-Number-2
-returns-in-Number-2 c = appends-by (sym (left_of-other c.args.by_box c.in-Number.is)) refl (appends-done c.args.names.now c.args.build.now nothing)
+returns-in-Number-2 c = appends-other c.args.names.now c.args.by_box c.args.build.now c.in-Number.is
 
 pub returns-in-Number-3 : goal.returns-in-Number-3
-returns-in-Number-3 c = appends-by (sym (left_of-other c.args.by_box c.in-Number.is)) refl (appends-done c.args.names.now c.args.build.now nothing)
+returns-in-Number-3 c = appends-other c.args.names.now c.args.by_box c.args.build.now c.in-Number.is
 
 pub returns-in-Number-4 : goal.returns-in-Number-4
-returns-in-Number-4 c = appends-by (sym (left_of-other c.args.by_box c.in-Number.is)) refl (appends-done c.args.names.now c.args.build.now nothing)
+returns-in-Number-4 c = appends-other c.args.names.now c.args.by_box c.args.build.now c.in-Number.is
 
 pub returns-in-Number-5 : goal.returns-in-Number-5
-returns-in-Number-5 c = appends-by (sym (left_of-other c.args.by_box c.in-Number.is)) refl (appends-done c.args.names.now c.args.build.now nothing)
+returns-in-Number-5 c = appends-other c.args.names.now c.args.by_box c.args.build.now c.in-Number.is
 
 pub returns-in-Number-6 : goal.returns-in-Number-6
-returns-in-Number-6 c = appends-by (sym (left_of-other c.args.by_box c.in-Number.is)) refl (appends-done c.args.names.now c.args.build.now nothing)
+returns-in-Number-6 c = appends-other c.args.names.now c.args.by_box c.args.build.now c.in-Number.is
 
 pub returns-in-Number-7 : goal.returns-in-Number-7
-returns-in-Number-7 c = appends-by (sym (left_of-other c.args.by_box c.in-Number.is)) refl (appends-done c.args.names.now c.args.build.now nothing)
+returns-in-Number-7 c = appends-other c.args.names.now c.args.by_box c.args.build.now c.in-Number.is
 
 pub returns-in-Number-8 : goal.returns-in-Number-8
-returns-in-Number-8 c = appends-by (sym (left_of-other c.args.by_box c.in-Number.is)) refl (appends-done c.args.names.now c.args.build.now nothing)
+returns-in-Number-8 c = appends-other c.args.names.now c.args.by_box c.args.build.now c.in-Number.is
 
 pub returns-in-Number-9 : goal.returns-in-Number-9
-returns-in-Number-9 c = appends-by (sym (left_of-other c.args.by_box c.in-Number.is)) refl (appends-done c.args.names.now c.args.build.now nothing)
+returns-in-Number-9 c = appends-other c.args.names.now c.args.by_box c.args.build.now c.in-Number.is

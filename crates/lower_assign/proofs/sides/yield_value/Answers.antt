@@ -1,12 +1,7 @@
-use Rattle.std.proofs.Common.{[], ◌∷◌}
-use Rattle.hlfir_ops.specs.declared.what.What.TheVariants.{Yield}
-use Rattle.lower_values.specs.Lowerings.{acting}
 use Rattle.lower_values.specs.Values.{value}
-use Rattle.lower_values.proofs.Appended.{appends-next, if-map}
+use Rattle.lower_values.proofs.Appended.{if-map}
+use Rattle.lower_assign.proofs.Lefts.{yields}
 use Rattle.lower_assign.proofs.sides.yield_value.Goals as goal
 
 pub returns : goal.returns
-returns c =
-    let names = c.args.names.now in
-    let e = c.args.e.now in
-    if-map c.yielded.result (λ y h. appends-next names (value e) (λ x. acting Yield (x.value ∷ [])) c.args.build.now c.value.new.build c.yielded.new.build c.in_ok-x.x tt c.in_ok-x.ensures (h names)) c.yielded.ensures
+returns c = if-map c.yielded.result (λ y h. yields (value c.args.e.now) c.in_ok-x.ensures (h c.args.names.now)) c.yielded.ensures

@@ -1,0 +1,7 @@
+use Rattle.lower_assign.specs.Statements.{left_of}
+use Rattle.lower_values.proofs.Appended.{if-map}
+use Rattle.lower_assign.proofs.Lefts.{yields}
+use Rattle.lower_assign.proofs.sides.yield_designator.Goals as goal
+
+pub returns : goal.returns
+returns c = if-map c.yielded.result (λ y h. yields (left_of c.args.by_box c.args.e.now) c.in_ok-x.ensures (h c.args.names.now)) c.yielded.ensures
