@@ -51,29 +51,15 @@ each_is_of_p = refl
 abbrev lies : ℕ → ℕ → Relation
 lies m n = relation (designator_at (givers_of through_boxes) m) (designator_at (givers_of through_boxes) n)
 
-whole_by_either : lies 1 2 ≡ Same
+-- by either box: p; the same section; the bounds that are kept
+by_either_box : lies 1 2 ∷ lies 6 7 ∷ lies 14 15 ∷ [] ≡ Same ∷ Same ∷ Same ∷ []
 unfolding ops_open relations_open
-whole_by_either = refl
+by_either_box = refl
 
-section_by_either : lies 6 7 ≡ Same
+-- the section with itself on the left, with one that shares 2, and with an element past it
+one_section : lies 6 20 ∷ lies 6 8 ∷ lies 6 9 ∷ [] ≡ Same ∷ May ∷ Disjoint ∷ []
 unfolding ops_open relations_open
-section_by_either = refl
-
-right_and_left : lies 6 20 ≡ Same
-unfolding ops_open relations_open
-right_and_left = refl
-
-sections_that_share_2 : lies 6 8 ≡ May
-unfolding ops_open relations_open
-sections_that_share_2 = refl
-
-section_and_element_past_it : lies 6 9 ≡ Disjoint
-unfolding ops_open relations_open
-section_and_element_past_it = refl
-
-kept_bounds_by_either : lies 14 15 ≡ Same
-unfolding ops_open relations_open
-kept_bounds_by_either = refl
+one_section = refl
 
 -- two variables, of which each stands under two more boxes
 two_variables :
