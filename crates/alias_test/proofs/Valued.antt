@@ -8,18 +8,20 @@ use Rattle.hlfir_ops.specs.declared.kinds.Elem.TheVariants.{I32}
 use Rattle.hlfir_ops.specs.declared.kinds.ValueKind.{ValueKind}
 use Rattle.hlfir_ops.specs.declared.kinds.ValueKind.TheVariants.{Scalar}
 use Rattle.hlfir_ops.specs.declared.what.What.{What}
+use Rattle.hlfir_ops.specs.declared.what.What.TheVariants as what
 use Rattle.hlfir_ops.specs.declared.op.Op.{Op, Op', out-Op, roll-Op, roll-out-Op}
 use Rattle.hlfir_ops.specs.declared.op.Region.{Region'}
 use Rattle.hlfir_ops.specs.Opened.{trees_open}
 use Rattle.hlfir_ops.specs.Trees.{Ops, end_ops, more_ops, Regions, end_regions, more_regions}
 use Rattle.hlfir_ops.specs.Numbers.{names_in}
+use Rattle.hlfir_ops.specs.RulesStatements.{is_forall}
 use Rattle.hlfir_ops.specs.RulesValues.{Value, own_values, value_of_name, op_values, regions_values, ops_values, values_of, kind_of, is_target}
 use Rattle.alias_test.proofs.Numbers.{never}
 use Rattle.alias_test.specs.Givers.{own_givers, op_givers, regions_givers, ops_givers, givers_of}
 
--- The op gives the value, which has its kind, or an index name.
+-- The op gives the value, which has its kind, or it is the forall of the index name that the value is.
 abbrev pub GivenBy : Value → Op → Type 0
-GivenBy v op = ((out-Op op).kind ≡ Some v.kind) ⊎ (v.kind ≡ Scalar I32)
+GivenBy v op = ((out-Op op).kind ≡ Some v.kind) ⊎ ((is_forall (out-Op op).what ≡ true) × (v.kind ≡ Scalar I32))
 
 zip_append : (us vs : List Value) (fs gs : List Op) → AllZip GivenBy us fs → AllZip GivenBy vs gs → AllZip GivenBy (us ++ vs) (fs ++ gs)
 zip_append [] vs [] gs a b = b
@@ -31,31 +33,42 @@ own_zip : (w : What) (op : Op) (k : Option ValueKind) → (out-Op op).kind ≡ k
 own_zip w op (Some kind) e = (inl e, tt)
 own_zip w op None e = tt
 
-names_zip : (op : Op) (names : List Name) → AllZip GivenBy (map value_of_name names) (map (λ name. op) names)
-names_zip op [] = tt
-names_zip op (name ∷ names) = (inr refl, names_zip op names)
+each_name : (op : Op) (names : List Name) → is_forall (out-Op op).what ≡ true → AllZip GivenBy (map value_of_name names) (map (λ name. op) names)
+each_name op [] e = tt
+each_name op (name ∷ names) e = (inr (e, refl), each_name op names e)
+
+names_zip : (op : Op) (w : What) (k : ℕ) → (out-Op op).what ≡ w → AllZip GivenBy (map value_of_name (names_in w k)) (map (λ name. op) (names_in w k))
+names_zip op (what.Forall names) (suc zero) e = each_name op names (ap is_forall e)
+names_zip op w k e = tt
+
+abbrev own_what : Op → What
+own_what (Op' w line os k _ regions) = w
 
 abbrev own_kind : Op → Option ValueKind
 own_kind (Op' w line os k _ regions) = k
 
-own_kind-rolled : (op : Op) → (out-Op op).kind ≡ own_kind (roll-Op (out-Op op))
+-- what an op does and the kind of its value, as its fields and as it is written out
+rolled : (op : Op) → ((out-Op op).what ≡ own_what (roll-Op (out-Op op))) × ((out-Op op).kind ≡ own_kind (roll-Op (out-Op op)))
 unfolding trees_open
-own_kind-rolled op = refl
+rolled op = (refl, refl)
+
+own_what-field : (op : Op) → (out-Op op).what ≡ own_what op
+own_what-field op = (rolled op).0 ∙ ap own_what (roll-out-Op op)
 
 own_kind-field : (op : Op) → (out-Op op).kind ≡ own_kind op
-own_kind-field op = own_kind-rolled op ∙ ap own_kind (roll-out-Op op)
+own_kind-field op = (rolled op).1 ∙ ap own_kind (roll-out-Op op)
 
 mutual
   op_zip : (op : Op) → AllZip GivenBy (op_values op) (op_givers op)
   op_zip (Op' w line os k g regions) =
       zip_append (own_values w k) (regions_values w 0 regions) (own_givers (Op' w line os k g regions) k) (regions_givers (Op' w line os k g regions) w 0 regions) (own_zip w (Op' w line os k g regions) k (own_kind-field (Op' w line os k g regions)))
-      (regions_zip (Op' w line os k g regions) w 0 regions)
+      (regions_zip (Op' w line os k g regions) w (own_what-field (Op' w line os k g regions)) 0 regions)
 
-  regions_zip : {m : Count} (op : Op) (w : What) (k : ℕ) (regions : Regions m) → AllZip GivenBy (regions_values w k regions) (regions_givers op w k regions)
-  regions_zip op w k end_regions = tt
-  regions_zip op w k (more_regions (Region' g ops) regions) =
+  regions_zip : {m : Count} (op : Op) (w : What) → (out-Op op).what ≡ w → (k : ℕ) (regions : Regions m) → AllZip GivenBy (regions_values w k regions) (regions_givers op w k regions)
+  regions_zip op w e k end_regions = tt
+  regions_zip op w e k (more_regions (Region' g ops) regions) =
       zip_append (map value_of_name (names_in w k) ++ ops_values ops) (regions_values w (suc k) regions) (map (λ name. op) (names_in w k) ++ ops_givers ops) (regions_givers op w (suc k) regions)
-      (zip_append (map value_of_name (names_in w k)) (ops_values ops) (map (λ name. op) (names_in w k)) (ops_givers ops) (names_zip op (names_in w k)) (ops_zip ops)) (regions_zip op w (suc k) regions)
+      (zip_append (map value_of_name (names_in w k)) (ops_values ops) (map (λ name. op) (names_in w k)) (ops_givers ops) (names_zip op w k e) (ops_zip ops)) (regions_zip op w e (suc k) regions)
 
   ops_zip : {m : Count} (ops : Ops m) → AllZip GivenBy (ops_values ops) (ops_givers ops)
   ops_zip end_ops = tt
@@ -69,7 +82,7 @@ values_zip (op ∷ ops) = zip_append (op_values op) (values_of ops) (op_givers o
 
 target_given : (v : Value) (op : Op) → GivenBy v op → is_target (Some v.kind) ≡ true → (out-Op op).kind ≡ Some v.kind
 target_given v op (inl same) h = same
-target_given v op (inr name) h = never (subst (λ (k : ValueKind). is_target (Some k) ≡ true) name h)
+target_given v op (inr name) h = never (subst (λ (k : ValueKind). is_target (Some k) ≡ true) name.1 h)
 
 pub giver_of_target : (vs : List Value) (gs : List Op) (n : ℕ) → AllZip GivenBy vs gs → is_target (kind_of (slice_get vs n)) ≡ true → (op : Op) × (slice_get gs n ≡ Some op) × ((out-Op op).kind ≡ kind_of (slice_get vs n))
 giver_of_target [] gs n zip h = never h
