@@ -80,7 +80,31 @@ abbrev pub asked_symbol : List Op → What → ValueId → Sym
 asked_symbol gs what.Load v = loaded (slice_get gs v.number) v.number
 asked_symbol gs (what.Bound word dim) r = bound_symbol word (variable_of gs r.number) dim
 asked_symbol gs what.Size r = Size (variable_of gs r.number) 0
-asked_symbol gs w v = Other
+asked_symbol gs (what.Declare name) v = Other
+asked_symbol gs (what.Assign realloc) v = Other
+asked_symbol gs what.Masked v = Other
+asked_symbol gs what.Elsewhere v = Other
+asked_symbol gs (what.Forall names) v = Other
+asked_symbol gs what.ForallMask v = Other
+asked_symbol gs what.Workshare v = Other
+asked_symbol gs what.DoLoop v = Other
+asked_symbol gs (what.Allocmem also) v = Other
+asked_symbol gs (what.Freemem also) v = Other
+asked_symbol gs (what.Read also) v = Other
+asked_symbol gs what.Yield v = Other
+asked_symbol gs what.YieldElement v = Other
+asked_symbol gs (what.Constant z) v = Other
+asked_symbol gs (what.Unary op) v = Other
+asked_symbol gs (what.Binary op) v = Other
+asked_symbol gs what.Select v = Other
+asked_symbol gs what.Boxed v = Other
+asked_symbol gs what.Allocated v = Other
+asked_symbol gs (what.Designate subs) v = Other
+asked_symbol gs what.Vector v = Other
+asked_symbol gs what.AsExpr v = Other
+asked_symbol gs what.Elemental v = Other
+asked_symbol gs what.Apply v = Other
+asked_symbol gs (what.Reduce r) v = Other
 
 -- the symbol of the value of this number, which an op of this sort gives
 abbrev pub symbol_by : List Op → ℕ → What → List ValueId → Option ValueKind → Sym
