@@ -12,7 +12,8 @@ use Rattle.alias_test.specs.declared.designator.Sym.TheVariants.{Number, Truth, 
 use Rattle.alias_test.specs.declared.designator.Form.{Form}
 use Rattle.alias_test.specs.declared.designator.Form.TheVariants.{Index, Range, OpaqueIndex, OpaqueRange}
 use Rattle.alias_test.specs.Symbols.{Tree}
-use Rattle.alias_test.specs.Relations.{same_truth, unary_place, binary_place, same_symbol, same_tree, same_range, alike}
+use Rattle.ws_space.specs.Masks.{same_truth}
+use Rattle.alias_test.specs.Relations.{unary_place, binary_place, same_symbol, same_tree, same_range, alike}
 use Rattle.alias_test.specs.Elements.{Valuation, AgreesWith, is_other, has_other, subscripts_in}
 use Rattle.alias_test.proofs.Numbers.{never, int_eq-true, same_list-true}
 

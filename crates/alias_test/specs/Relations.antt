@@ -8,6 +8,7 @@ use Rattle.ws_base.specs.declared.op.BinOp.{BinOp}
 use Rattle.ws_base.specs.declared.op.BinOp.TheVariants as binary
 use Rattle.ws_space.specs.declared.shape.Triplet.{Triplet}
 use Rattle.ws_space.specs.Subscripts.{selected}
+use Rattle.ws_space.specs.Masks.{same_truth}
 use Rattle.alias_test.specs.declared.designator.Relation.{Relation}
 use Rattle.alias_test.specs.declared.designator.Relation.TheVariants.{Same, Disjoint, May}
 use Rattle.alias_test.specs.declared.designator.Sym.{Sym}
@@ -38,10 +39,6 @@ same_list (i ∷ is) (j ∷ js) = int_eq i j && same_list is js
 same_list _ _ = false
 
 -- ---- trees
-
-abbrev pub same_truth : Bool → Bool → Bool
-same_truth true b = b
-same_truth false b = not b
 
 -- where each operator stands among all
 abbrev pub unary_place : UnOp → ℕ
