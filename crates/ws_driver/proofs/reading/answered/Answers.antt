@@ -1,4 +1,4 @@
-use Rattle.std.proofs.Common.{refl, inl, inr, subst, ℕ, Result, Vec, Global}
+use Rattle.std.proofs.Common.{◌≤◌, refl, inl, inr, subst, ℕ, Result, Vec, Global}
 use Rattle.std.specs.Prelude.{IfErr}
 use Rattle.ws_io.specs.declared.whole.ReadEnd.{ReadEnd}
 use Rattle.ws_driver.specs.declared.reading.TheConstants.{SOURCE_LIMIT}
@@ -21,6 +21,9 @@ returns-in-Ok-accepted-clause-unread g c =
     unread_later (g.F.Files.told c.args.files.now) (g.F.Files.told c.read_whole.new.files) (g.F.Files.faults c.args.files.now) (g.F.Files.faults c.read_whole.new.files) (g.F.Files.faults c.given.new.files)
     (ReadsInput (data_of (asked c.args.request))) (Reads (g.F.Files.told c.args.files.now) (asked c.args.request)) c.given.result
     c.read_whole.ensures.kept c.read_whole.ensures.later
-    (λ name limit reads. inr (reads, told_one (g.F.Files.told c.args.files.now c.args.request.source.now) c.in-Ok.source.items IsRunnable c.in-Ok.ensures.whole
-    (c.in-Ok.ensures.within, c.in-Ok-accepted.checked, subst (λ b. IsSource b c.in-Ok-accepted.checked) c.as_slice.ensures.value c.in-Ok-accepted.ensures.tree)))
+    (λ name limit reads. inr (
+      reads,
+      told_one (g.F.Files.told c.args.files.now c.args.request.source.now) c.in-Ok.source.items IsRunnable c.in-Ok.ensures.whole
+          (subst (λ n. n ≤ SOURCE_LIMIT) c.in-Ok.source.ok.0 c.in-Ok.ensures.within, (c.in-Ok-accepted.checked, subst (λ b. IsSource b c.in-Ok-accepted.checked) c.as_slice.ensures.value c.in-Ok-accepted.ensures.tree)),
+    ))
     c.given.ensures.unread
