@@ -31,6 +31,7 @@ pub enum Verdict {
     Stopped(u64),
 }
 
+#[inline(always)]
 fn acted(state: MemberState) -> MemberState
     requires { (u d : ℕ) → state ≡ at.Within u d → d < 4611686018427387904 }
     ensures { result ≡ acted_state state }
@@ -46,6 +47,7 @@ fn acted(state: MemberState) -> MemberState
 
 impl Board {
     /// The first word of the four of a phase.
+    #[inline(always)]
     fn words_at(&self, phase: u32) -> usize
         requires { phase < length self.now.run.phases }
         ensures { (result ≡ 1 + length self.now.run.opening + 4 * phase) × (result + 3 < self.now.table.shared.table_id.words) }
@@ -82,6 +84,7 @@ impl Board {
 
     /// The value of a cell that the phase or the pass's unit may read: that at the phase's start, laid over by what the pass
     /// has done of its unit.
+    #[inline(always)]
     pub fn look(&self, pass: &mut Pass, cell: u32) -> u64
         requires pass { IsPassOf self.now pass.old }
         requires looking { Looking pass.old.state }
@@ -95,6 +98,7 @@ impl Board {
     }
 
     /// Stores the next effect of the pass's unit.
+    #[inline(always)]
     pub fn put(&self, pass: &mut Pass, cell: u32, value: u64)
         requires pass { IsPassOf self.now pass.old }
         requires cell { cell < length self.now.run.opening }
