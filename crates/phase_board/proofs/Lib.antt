@@ -1,6 +1,10 @@
 pub mod Words
 pub mod Moves
+pub mod Reach
 pub mod Opens
 pub mod Units
+pub mod Opened
+pub mod Results
 pub mod Closes
+pub mod Moments
 pub mod Counts

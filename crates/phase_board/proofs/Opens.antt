@@ -12,7 +12,7 @@ use Rattle.phase_board.specs.declared.plays.Run.{Run}
 use Rattle.phase_board.specs.declared.plays.View.{View}
 use Rattle.phase_board.specs.declared.plays.Role.{Role}
 use Rattle.phase_board.specs.declared.plays.Role.TheVariants.{Waiting, Of, Spent}
-use Rattle.phase_board.specs.Rule.{course_of, IsOf, spent_view, count_words, words_of, Stands, Kept, view, base_view, cut_left, cut_right}
+use Rattle.phase_board.specs.Rule.{course_of, found_by, IsOf, spent_view, count_words, words_of, Stands, Kept, view, base_view, cut_left, cut_right}
 
 one_more : (n : ℕ) → count_words (replicate (suc n) blank) ≡ count_words (replicate n blank) ++ 0 ∷ 0 ∷ 0 ∷ none_yet ∷ []
 one_more zero = refl
@@ -38,9 +38,9 @@ opens r words fit e = record {
   seats = λ j v q. only j v q;
 }
   where
-    only : (j : ℕ) (v : View) → get_elem? (base_view r ∷ []) j ≡ some v → IsOf r v × Stands r (start (course_of r)) (λ _. 0) j v.role
-    only zero v q = subst (λ (z : View). IsOf r z × Stands r (start (course_of r)) (λ _. 0) 0 z.role) (some-injective (base_view r) v q)
-        (inr refl, λ m l l'. (refl, replicated r.team m (member 0 (first_state (length r.phases)) false) l'))
+    only : (j : ℕ) (v : View) → get_elem? (base_view r ∷ []) j ≡ some v → IsOf r v × Stands r (start (course_of r)) (found_by (course_of r) []) (λ _. 0) j v.sights v.role
+    only zero v q = subst (λ (z : View). IsOf r z × Stands r (start (course_of r)) (found_by (course_of r) []) (λ _. 0) 0 z.sights z.role) (some-injective (base_view r) v q)
+        (inr refl, λ m l l'. (refl, replicated r.team m (member 0 (first_state (length r.phases)) false) l', refl))
     only (suc j) v q = absurd (some-ne-none v (sym q))
 
 at_end : {A : Type 0} (l : List A) (a b : A) (j : ℕ) → get_elem? (l ++ a ∷ []) j ≡ some b → (get_elem? l j ≡ some b) ⊎ ((j ≡ length l) × (a ≡ b))
@@ -50,8 +50,8 @@ at_end (x ∷ xs) a b zero e = inl e
 at_end (x ∷ xs) a b (suc j) e = ⊎_elim inl (λ t. inr (ap suc t.0, t.1)) (at_end xs a b j e)
 
 -- the member n gets a seat of its own
-pub splits : (r : Run) (id n : ℕ) → n < r.team → Splits (Kept r) id (view r (Waiting n)) (cut_left (view r (Waiting n))) (cut_right (view r (Waiting n)))
-splits r id n l s h at = let base = (h.seats id (view r (Waiting n)) at).1 in let new : ℕ = length s.views in let owner : ℕ → ℕ = put h.owner n new in record {
+pub splits : (r : Run) (id n : ℕ) → n < r.team → Splits (Kept r) id (view r (Waiting n) []) (cut_left (view r (Waiting n) [])) (cut_right (view r (Waiting n) []))
+splits r id n l s h at = let base = (h.seats id (view r (Waiting n) []) at).1 in let new : ℕ = length s.views in let owner : ℕ → ℕ = put h.owner n new in let found : ℕ → List ℕ = found_by (course_of r) h.steps in record {
   core = h.core;
   steps = h.steps;
   core_is = h.core_is;
@@ -60,22 +60,22 @@ splits r id n l s h at = let base = (h.seats id (view r (Waiting n)) at).1 in le
   owner = owner;
   seats = λ j v q. ⊎_elim
       (λ q'. ⊎_elim
-      (λ (t : (j ≡ id) × (view r (Waiting (suc n)) ≡ v)). subst (λ (z : ℕ × View). IsOf r z.1 × Stands r h.core owner z.0 z.1.role) (λ i. (sym t.0 i, t.1 i))
-      (inr refl, λ m a b. let o = base m (omega arith) b in (put_else h.owner n new m (λ e. omega arith) ∙ o.0, o.1)))
-      (λ (t : (j ≢ id) × (get_elem? s.views j ≡ some v)). let o = h.seats j v t.1 in (o.0, others j (λ e. t.0 (sym e ∙ (base n (omega arith) l).0)) v.role o.1))
-      (at_set s.views id j (view r (Waiting (suc n))) v q'))
-      (λ (t : (j ≡ length (set s.views id (view r (Waiting (suc n))))) × (view r (Of n 0 (first_state (length r.phases)) false) ≡ v)).
-      subst (λ (z : ℕ × View). IsOf r z.1 × Stands r h.core owner z.0 z.1.role) (λ i. (sym (t.0 ∙ length-set s.views id (view r (Waiting (suc n)))) i, t.1 i))
-      (inr refl, (put_here h.owner n new, (base n (omega arith) l).1)))
-      (at_end (set s.views id (view r (Waiting (suc n)))) (view r (Of n 0 (first_state (length r.phases)) false)) v j q);
+      (λ (t : (j ≡ id) × (view r (Waiting (suc n)) [] ≡ v)). subst (λ (z : ℕ × View). IsOf r z.1 × Stands r h.core found owner z.0 z.1.sights z.1.role) (λ i. (sym t.0 i, t.1 i))
+      (inr refl, λ m a b. let o = base m (omega arith) b in (put_else h.owner n new m (λ e. omega arith) ∙ o.0, o.1, o.2)))
+      (λ (t : (j ≢ id) × (get_elem? s.views j ≡ some v)). let o = h.seats j v t.1 in (o.0, others j (λ e. t.0 (sym e ∙ (base n (omega arith) l).0)) v.sights v.role o.1))
+      (at_set s.views id j (view r (Waiting (suc n)) []) v q'))
+      (λ (t : (j ≡ length (set s.views id (view r (Waiting (suc n)) []))) × (view r (Of n 0 (first_state (length r.phases)) false) [] ≡ v)).
+      subst (λ (z : ℕ × View). IsOf r z.1 × Stands r h.core found owner z.0 z.1.sights z.1.role) (λ i. (sym (t.0 ∙ length-set s.views id (view r (Waiting (suc n)) [])) i, t.1 i))
+      (inr refl, (put_here h.owner n new, (base n (omega arith) l).1, sym (base n (omega arith) l).2)))
+      (at_end (set s.views id (view r (Waiting (suc n)) [])) (view r (Of n 0 (first_state (length r.phases)) false) []) v j q);
 }
   where
-    others : (j : ℕ) → (h.owner n ≡ j → ⊥) → (role : Role) → Stands r h.core h.owner j role → Stands r h.core (put h.owner n (length s.views)) j role
-    others j not (Waiting k) old = λ m a b. let o = old m a b in (put_else h.owner n (length s.views) m (λ e. not (ap h.owner (sym e) ∙ o.0)) ∙ o.0, o.1)
-    others j not (Of m t st full) old = (put_else h.owner n (length s.views) m (λ e. not (ap h.owner (sym e) ∙ old.0)) ∙ old.0, old.1)
-    others j not Spent old = tt
+    others : (j : ℕ) → (h.owner n ≡ j → ⊥) → (had : List ℕ) (role : Role) → Stands r h.core (found_by (course_of r) h.steps) h.owner j had role → Stands r h.core (found_by (course_of r) h.steps) (put h.owner n (length s.views)) j had role
+    others j not had (Waiting k) old = λ m a b. let o = old m a b in (put_else h.owner n (length s.views) m (λ e. not (ap h.owner (sym e) ∙ o.0)) ∙ o.0, o.1, o.2)
+    others j not had (Of m t st full) old = (put_else h.owner n (length s.views) m (λ e. not (ap h.owner (sym e) ∙ old.0)) ∙ old.0, old.1, old.2)
+    others j not had Spent old = tt
 
-pub splits_seat : (key r : Run) (id n : ℕ) (me : View) → key ≡ r → me ≡ view r (Waiting n) → n < r.team → Splits (Kept key) id me (cut_left me) (cut_right me)
+pub splits_seat : (key r : Run) (id n : ℕ) (me : View) → key ≡ r → me ≡ view r (Waiting n) [] → n < r.team → Splits (Kept key) id me (cut_left me) (cut_right me)
 splits_seat key r id n me k e l = subst (λ (z : Run × View). Splits (Kept z.0) id z.1 (cut_left z.1) (cut_right z.1)) (λ i. (sym k i, sym e i)) (splits r id n l)
 
 blanks_length : (n : ℕ) → length (count_words (replicate n blank)) ≡ 4 * n
@@ -96,7 +96,7 @@ joins r id other v w s h at apart there = let same : set s.views id v ≡ s.view
       words_are = h.words_are;
       owner = h.owner;
       seats = λ j x q. ⊎_elim
-          (λ (t : (j ≡ other) × (spent_view ≡ x)). subst (λ (z : View). IsOf r z × Stands r h.core h.owner j z.role) t.1 (inl refl, tt))
+          (λ (t : (j ≡ other) × (spent_view ≡ x)). subst (λ (z : View). IsOf r z × Stands r h.core (found_by (course_of r) h.steps) h.owner j z.sights z.role) t.1 (inl refl, tt))
           (λ (t : (j ≢ other) × (get_elem? s.views j ≡ some x)). h.seats j x t.1)
           (at_set s.views other j spent_view x q);
     }

@@ -1,6 +1,6 @@
 -- What a board gives when it is closed.
-use Rattle.std.specs.Prelude.{◌≡◌, ℕ, suc, ◌<◌, ◌≤◌, cond, ltb, List, length, slice_index}
-use Rattle.phase_ops.specs.Phases.{none_yet, units, key, after}
+use Rattle.std.specs.Prelude.{◌≡◌, ℕ, suc, ◌-◌, ◌<◌, ◌≤◌, cond, ltb, nat_lt, if◌then◌else◌, List, length, slice_index, sum}
+use Rattle.phase_ops.specs.Phases.{Cells, none_yet, units, key, after, Outcome, Finished, Failed, result}
 use Rattle.team_core.specs.declared.state.CoreState.{CoreState}
 use Rattle.team_core.specs.Laws.{phase_at}
 use Rattle.team_core.specs.Core.{Ending, counts_at}
@@ -16,6 +16,10 @@ AreClosed r words =
 abbrev pub finished_of : Run → ℕ → ℕ → ℕ
 finished_of r entered t = cond (ltb t entered) (units (phase_at r.phases t) (after r.phases r.opening r.chunk t) r.chunk) 0
 
+-- all phases have run and left these cells, or the last of so many has this key
+abbrev pub outcome_of : ℕ → ℕ → Cells → Outcome
+outcome_of entered key_found closing = if nat_lt key_found none_yet then Failed (entered - 1) key_found else Finished closing
+
 -- The phases were run up to the first with a key, or all were: how many, the key of the last of them, the cells that they leave,
 -- and how many units of each were finished.
 pub record IsOutcome (r : Run) (entered key_found : ℕ) (closing finished : List ℕ) : Type 0 where
@@ -26,4 +30,6 @@ pub record IsOutcome (r : Run) (entered key_found : ℕ) (closing finished : Lis
   pub last : (t : ℕ) → suc t ≡ entered → key (phase_at r.phases t) (after r.phases r.opening r.chunk t) r.chunk ≡ key_found
   pub none : entered ≡ 0 → key_found ≡ none_yet
   pub stopped : entered < length r.phases → key_found < none_yet
+  pub result_is : result r.phases r.opening r.chunk ≡ outcome_of entered key_found closing
+  pub few : sum finished ≤ 33554432
   pub finished_are : (t : ℕ) → t < length r.phases → slice_index finished t ≡ finished_of r entered t

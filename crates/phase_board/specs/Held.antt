@@ -11,4 +11,6 @@ pub record Held : Type 0 where
   pub phase : ℕ
   pub state : MemberState
   pub full : Bool
+  -- how many it has found to have arrived, the last first
+  pub sights : List ℕ
   pub registers : List ℤ

@@ -1,4 +1,5 @@
 pub mod Rule
+pub mod Moments
 pub mod Looking
 pub mod Held
 pub mod Passes

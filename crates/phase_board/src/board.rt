@@ -65,9 +65,9 @@ impl Model for Pass {
 
     ghost Value = { Held };
 
-    ghost view = { λ p. record { table = p.seat.table_id; run = p.seat.me.0.run; member = p.member; phase = p.phase; state = p.state; full = p.full; registers = p.registers.items } };
+    ghost view = { λ p. record { table = p.seat.table_id; run = p.seat.me.0.run; member = p.member; phase = p.phase; state = p.state; full = p.full; sights = p.seat.me.0.sights; registers = p.registers.items } };
 
-    ghost invariant = { λ p. (p.seat.me ≡ (view_with p.seat.me.0.run (Of p.member p.phase p.state p.full), [])) × (p.state ≢ Ended → p.phase < length p.seat.me.0.run.phases) × (length p.seat.me.0.run.phases ≤ 512) × IsKnown p.seat.me.0.run p.phase p.state };
+    ghost invariant = { λ p. (p.seat.me ≡ (view_with p.seat.me.0.run (Of p.member p.phase p.state p.full) p.seat.me.0.sights, [])) × (p.state ≢ Ended → p.phase < length p.seat.me.0.run.phases) × (length p.seat.me.0.run.phases ≤ 512) × IsKnown p.seat.me.0.run p.phase p.state };
 }
 
 impl Board {

@@ -96,6 +96,8 @@ impl Board {
         ensures run { result.1.run ≡ self.run }
         ensures cells { result.0.cells ≡ result.1.closing }
         ensures counts { (result.0.regions ≡ suc self.spare.regions) × (result.0.units ≡ self.spare.units + sum result.1.finished) }
+        ensures outcome { IsOutcome self.run result.1.entered result.1.key result.1.closing result.1.finished }
+        ensures few { sum result.1.finished ≤ 33554432 }
     {
         let Some(last) = passes.pop() else {
             unreachable!()
@@ -127,19 +129,19 @@ impl Board {
         read_back(&closed, &mut finished, 2 + run.opening.len(), 4);
         let (entered, key) = outcome(&closed, run.opening.len(), run.phases.len());
         closed.free();
-        let memory = Memory {
-            cells,
-            registers,
-            regions: regions + 1,
-            units: units + total(finished.as_slice()),
-            alloc,
-        };
         let board = ClosedBoard {
             run,
             closing,
             finished,
             entered,
             key,
+        };
+        let memory = Memory {
+            cells,
+            registers,
+            regions: regions + 1,
+            units: units + total(board.finished.as_slice()),
+            alloc,
         };
         (memory, board)
     }
@@ -215,12 +217,7 @@ impl ClosedBoard {
             entered: _,
             key: _,
         } = self;
-        let Run {
-            phases,
-            opening,
-            team: _,
-            chunk: _,
-        } = run;
+        let (phases, opening) = run.into_parts();
         (phases, opening, closing)
     }
 }

@@ -6,6 +6,7 @@
 mod board;
 mod chunks;
 mod close;
+pub mod laws;
 mod log;
 mod memory;
 mod open;

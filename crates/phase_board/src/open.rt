@@ -88,7 +88,7 @@ fn deal(
     mut seat: Seat<(), View>,
     registers: usize,
 ) -> Result<Vec<Pass>, AllocError>
-    requires seat { (seat.table_id ≡ board.now.table.shared.table_id) × (seat.me ≡ (view board.now.run (Waiting 0), [])) }
+    requires seat { (seat.table_id ≡ board.now.table.shared.table_id) × (seat.me ≡ (view board.now.run (Waiting 0) [], [])) }
     requires may { MayStart board.now.run.phases board.now.run.opening board.now.run.team board.now.run.chunk }
     requires room { AreEnough board.now.run.phases registers }
     ensures { IfOk result (λ v. AllNew board.now v.items × (length v.items ≡ board.now.run.team)) }
@@ -128,14 +128,9 @@ fn refused(
     ensures phases { result.phases ≡ run.phases }
     ensures memory { result.memory ≡ record { cells = run.opening; registers = registers.items; regions = regions; units = units } }
 {
-    let Run {
-        phases,
-        opening,
-        team: _,
-        chunk: _,
-    } = run;
+    let (phases, cells) = run.into_parts();
     let memory = Memory {
-        cells: opening,
+        cells,
         registers,
         regions,
         units,

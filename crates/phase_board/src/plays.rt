@@ -14,6 +14,23 @@ pub struct Run {
     pub chunk: u32,
 }
 
+impl Run {
+    ghost use Rattle.std.specs.Prelude.{◌≡◌};
+
+    /// The phases and the opening cells.
+    pub(crate) fn into_parts(self) -> (PhaseList, CellList)
+        ensures { result ≡ (self.phases, self.opening) }
+    {
+        let Run {
+            phases,
+            opening,
+            team: _,
+            chunk: _,
+        } = self;
+        (phases, opening)
+    }
+}
+
 /// What a seat is for. No value of it is made.
 pub enum Role {
     /// The members from this number on have no seat of their own yet.
@@ -23,10 +40,11 @@ pub enum Role {
     Spent,
 }
 
-/// What a seat knows. No value of it is made.
+/// What a seat knows: the last are the words that its member has found at barriers, the last first. No value of it is made.
 pub struct View {
     pub run: Run,
     pub role: Role,
+    pub sights: CellList,
 }
 
 /// There is a list of steps of the core of which the words and the views tell.

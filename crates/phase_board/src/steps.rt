@@ -1,15 +1,14 @@
 //! The steps of a pass: each is one atomic step on one word.
 
-ghost use Rattle.std.specs.Prelude.{◌≡◌, ◌≢◌, ℕ, suc, ◌+◌, ◌*◌, ◌<◌, length, MatchOption, true, false};
-ghost use mathlib.Core.Option.{some};
-ghost use lib.ListN.{get_elem?};
+ghost use Rattle.std.specs.Prelude.{◌≡◌, ℕ, ◌+◌, ◌*◌, ◌<◌, ◌↔◌, ◌∷◌, length, MatchOption, true, false};
 ghost use Rattle.phase_ops.specs.Course.{work_at, key_at};
 ghost use Rattle.phase_ops.specs.declared.effect.Effect.TheVariants as spec_effect;
 ghost use Rattle.team_core.specs.declared.member.MemberState.TheVariants as at;
 ghost use Rattle.phase_board.specs.declared.plays.Role.TheVariants.{Of};
 ghost use Rattle.phase_board.specs.Rule.{course_of, Looked, acted_state};
 ghost use Rattle.phase_board.specs.Looking.{Looking};
-ghost use Rattle.phase_board.specs.Passes.{IsPassOf, in_state, is_all, verdict_of, judged_pass};
+ghost use Rattle.phase_board.specs.Passes.{IsPassOf, IsNext, in_state, is_all, last_sight, verdict_of, judged_pass};
+ghost use Rattle.phase_board.specs.declared.steps.Seen.TheVariants.{All, NotYet};
 
 use crate::board::{Board, Pass};
 use crate::plays::{Act, Arrive, Claim, Finish, Judge, Look, See};
@@ -101,8 +100,7 @@ impl Board {
     #[inline(always)]
     pub fn put(&self, pass: &mut Pass, cell: u32, value: u64)
         requires pass { IsPassOf self.now pass.old }
-        requires cell { cell < length self.now.run.opening }
-        requires next { (u : ℕ) × (d : ℕ) × (pass.old.state ≡ at.Within u d) × (get_elem? ((work_at (course_of self.now.run) pass.old.phase).effects u) d ≡ some (spec_effect.Store cell value)) }
+        requires next { IsNext self.now pass.old (spec_effect.Store cell value) }
         ensures { pass.new ≡ in_state pass.old (acted_state pass.old.state) }
     {
         self.table
@@ -115,8 +113,7 @@ impl Board {
     /// Lays the next effect of the pass's unit over a cell: the cell gets the lesser of both values.
     pub fn least(&self, pass: &mut Pass, cell: u32, value: u64)
         requires pass { IsPassOf self.now pass.old }
-        requires cell { cell < length self.now.run.opening }
-        requires next { (u : ℕ) × (d : ℕ) × (pass.old.state ≡ at.Within u d) × (get_elem? ((work_at (course_of self.now.run) pass.old.phase).effects u) d ≡ some (spec_effect.Least cell value)) }
+        requires next { IsNext self.now pass.old (spec_effect.Least cell value) }
         ensures { pass.new ≡ in_state pass.old (acted_state pass.old.state) }
     {
         self.table
@@ -129,7 +126,7 @@ impl Board {
     /// Notes the key of a fault, which is the next effect of the pass's unit.
     pub fn note(&self, pass: &mut Pass, key: u64)
         requires pass { IsPassOf self.now pass.old }
-        requires next { (u : ℕ) × (d : ℕ) × (pass.old.state ≡ at.Within u d) × (get_elem? ((work_at (course_of self.now.run) pass.old.phase).effects u) d ≡ some (spec_effect.Fault key)) }
+        requires next { IsNext self.now pass.old (spec_effect.Fault key) }
         ensures { pass.new ≡ in_state pass.old (acted_state pass.old.state) }
     {
         let word = self.words_at(pass.phase) + 3;
@@ -168,11 +165,13 @@ impl Board {
         pass.state = MemberState::Arrived;
     }
 
-    /// Whether the whole team has arrived behind the phase.
+    /// Whether the whole team has arrived behind the phase, by one load of how many have.
     pub fn see(&self, pass: &mut Pass) -> Seen
         requires pass { IsPassOf self.now pass.old }
         requires arrived { (pass.old.state ≡ at.Arrived) × (pass.old.full ≡ false) }
-        ensures { pass.new ≡ record pass.old { full = is_all result } }
+        ensures not_yet { (result ≡ NotYet) ↔ (last_sight pass.new < self.now.run.team) }
+        ensures all { (result ≡ All) ↔ (last_sight pass.new ≡ self.now.run.team) }
+        ensures pass { pass.new ≡ record pass.old { full = is_all result; sights = last_sight pass.new ∷ pass.old.sights } }
     {
         let word = self.words_at(pass.phase) + 2;
         let found = self.table.shared.load::<See>(&mut pass.seat, word);

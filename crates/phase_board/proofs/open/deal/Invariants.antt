@@ -6,7 +6,7 @@ use Rattle.phase_board.proofs.open.deal.Given as goal
 
 abbrev pub invariant-loop-member : goal.invariant-loop-member
 invariant-loop-member l = record {
-  seat : (l.seat.table_id ≡ l.board.table.shared.table_id) × (l.seat.me ≡ (view l.board.run (Waiting l.member), []));
+  seat : (l.seat.table_id ≡ l.board.table.shared.table_id) × (l.seat.me ≡ (view l.board.run (Waiting l.member) [], []));
   count : length l.passes.items ≡ l.member;
   each : AllNew l.board l.passes.items;
 }

@@ -1,14 +1,5 @@
-use Rattle.std.proofs.Common.{arith, ap, ◌∙◌}
-use Rattle.phase_board.specs.Held.{Held}
-use Rattle.phase_board.proofs.Moves.{pass_arrives}
+use Rattle.phase_board.proofs.Opened.{arrives_now}
 use Rattle.phase_board.proofs.board.Board.arrive.Goals as goal
 
 pub fetch_add-requires : goal.fetch_add-requires
-fetch_add-requires c =
-    let b = c.args.self.now in let p = c.pass.inside in let v = c.pass.view_is in
-    let state = ap (λ (z : Held). z.state) v in let full = ap (λ (z : Held). z.full) v in let phase = ap (λ (z : Held). z.phase) v in (
-      ap (λ (z : Held). z.table) v ∙ c.requires.pass.0,
-      (let h = c.words_at-word.ensures in omega (arith, h)),
-      pass_arrives b.table.shared.key.value b.run p.seat.me b.table.shared.table_id.slots p.seat.id p.member p.phase p.state p.full b.keyed c.pass.invariant.0 (ap (λ (z : Held). z.run) v ∙ c.requires.pass.1) c.pass.invariant.1
-          _ (state ∙ c.requires.out) (let h = c.words_at-word.ensures in omega (arith, h)),
-    )
+fetch_add-requires c = arrives_now c.args.self.now c.pass.inside _ c.pass.view_is c.pass.invariant c.requires.pass c.words_at-word.result c.words_at-word.ensures c.requires.out

@@ -1,9 +1,7 @@
 use Rattle.std.proofs.Common.{◌≡◌, ℕ, ◌+◌, ◌*◌, ◌≤◌, List, [], sum, subst, ◌∷◌, ◌++◌, get_or, arith, ap, sym, ◌∙◌, rules}
 use Rattle.std.specs.Mem.Slots.{slots_items}
-use Rattle.phase_board.specs.declared.plays.Role.TheVariants.{Of}
 use Rattle.phase_board.specs.Held.{Held}
-use Rattle.phase_board.specs.Rule.{view}
-use Rattle.phase_board.proofs.Closes.{closes, gathered, done_front, same_list, outcome_at, finished_few}
+use Rattle.phase_board.proofs.Closes.{closed_by, gathered, done_front, same_list, outcome_at, finished_few}
 use Rattle.phase_board.proofs.board.Board.gather.Goals as goal
 
 pub glue-requires : goal.glue-requires
@@ -31,27 +29,20 @@ invariant_of-board c = let b = c.args.self in let last = c.in-Some.last in let p
     let cut : c.args.passes.items ≡ c.pop.new.self.items ++ last ∷ [] = search rules in
     let is = gathered b c.args.passes.items c.pop.new.self.items last c.requires.passes cut in
     let words = slots_items c.close_with-closed.result.words in
-    let run = ap (λ (z : Held). z.run) c.last.view_is ∙ is.0.1 in
-    let state = ap (λ (z : Held). z.state) c.last.view_is ∙ is.1 in
-    let shut = closes b.table.shared.key.value b.run c.glue.new.seat.id p.member p.phase c.glue.new.seat.me.0 p.full words (slots_items c.close_with-closed.result.slots) b.keyed b.sized.3
-    (ap (λ m. m.0) (c.glue.ensures.2 ∙ c.last.invariant.0) ∙ (λ i. view (run i) (Of p.member p.phase (state i) p.full))) c.close_with-closed.ensures.values.2 in
+    let shut = closed_by b p last c.last.view_is c.last.invariant.0 is c.glue.new.seat.id c.glue.new.seat.me c.glue.ensures.2 words (slots_items c.close_with-closed.result.slots) c.close_with-closed.ensures.values.2 in
     let s = b.spared in let long = c.read_back.ensures.length in let fin = c.read_back-3.ensures.length in let n = c.len.ensures in
     record {
       outcome = outcome_at b.run words c.read_back.new.into c.read_back-3.new.into c.outcome-entered.result.0 c.outcome-entered.result.1 c.len-2.result c.len-3.result c.len-2.ensures c.len-3.ensures shut (long ∙ s.0)
           (λ k l. c.read_back.ensures.words k (omega (arith, long, l)) ∙ ap (λ (i : ℕ). get_or words i 0) (let e : 1 + 1 * k ≡ 1 + k = omega arith in e))
-          (fin ∙ s.2) (λ t l. c.read_back-3.ensures.words t (omega (arith, s, fin, l)) ∙ ap (λ (i : ℕ). get_or words (2 + i + 4 * t) 0) n)
+          (fin ∙ s.2) b.sized.2 (λ t l. c.read_back-3.ensures.words t (omega (arith, s, fin, l)) ∙ ap (λ (i : ℕ). get_or words (2 + i + 4 * t) 0) n)
           c.outcome-entered.ensures.within c.outcome-entered.ensures.earlier c.outcome-entered.ensures.last c.outcome-entered.ensures.most c.outcome-entered.ensures.whole;
     }
 
 pub total-requires : goal.total-requires
-total-requires c = let b = c.args.self in let last = c.in-Some.last in let p = c.last.inside in
+total-requires c = let b = c.args.self in let last = c.in-Some.last in
     let cut : c.args.passes.items ≡ c.pop.new.self.items ++ last ∷ [] = search rules in
-    let is = gathered b c.args.passes.items c.pop.new.self.items last c.requires.passes cut in
     let words = slots_items c.close_with-closed.result.words in
-    let run = ap (λ (z : Held). z.run) c.last.view_is ∙ is.0.1 in
-    let state = ap (λ (z : Held). z.state) c.last.view_is ∙ is.1 in
-    let shut = closes b.table.shared.key.value b.run c.glue.new.seat.id p.member p.phase c.glue.new.seat.me.0 p.full words (slots_items c.close_with-closed.result.slots) b.keyed b.sized.3
-    (ap (λ m. m.0) (c.glue.ensures.2 ∙ c.last.invariant.0) ∙ (λ i. view (run i) (Of p.member p.phase (state i) p.full))) c.close_with-closed.ensures.values.2 in
+    let shut = closed_by b c.last.inside last c.last.view_is c.last.invariant.0 (gathered b c.args.passes.items c.pop.new.self.items last c.requires.passes cut) c.glue.new.seat.id c.glue.new.seat.me c.glue.ensures.2 words (slots_items c.close_with-closed.result.slots) c.close_with-closed.ensures.values.2 in
     let s = b.spared in let fin = c.read_back-3.ensures.length in let n = c.len.ensures in
     subst (λ (l : List ℕ). sum l ≤ 33554432) (sym c.as_slice.ensures)
     (finished_few b.run words c.read_back-3.new.into shut (fin ∙ s.2) b.sized.2 (λ t l. c.read_back-3.ensures.words t (omega (arith, s, fin, l)) ∙ ap (λ (i : ℕ). get_or words (2 + i + 4 * t) 0) n))
