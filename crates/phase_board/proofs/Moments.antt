@@ -1,19 +1,19 @@
 -- Wherever the rule holds, the words and the passes are a sound core.
-use Rattle.std.proofs.Common.{◌≡◌, ◌⊎◌, inl, inr, ℕ, Bool, false, refl, sym, ap, ◌∙◌, subst}
-use mathlib.Core.Option.{some, some-injective}
+use Rattle.std.proofs.Common.{◌≡◌, ℕ, Bool, refl, sym, ap, ◌∙◌, subst}
+use mathlib.Core.Option.{some}
 use lib.ListN.{get_elem?}
 use Rattle.atomic_table.specs.Table.{State}
 use Rattle.team_core.specs.declared.member.MemberState.{MemberState}
 use Rattle.team_core.specs.declared.member.MemberState.TheVariants.{Within}
-use Rattle.team_core.specs.Core.{Sound, member}
+use Rattle.team_core.specs.Core.{member}
 use Rattle.team_core.proofs.Keeping.{at_front, in_front}
 use Rattle.team_core.proofs.Teams.{team_apart}
 use Rattle.phase_board.specs.declared.plays.Run.{Run}
 use Rattle.phase_board.specs.declared.plays.View.{View}
 use Rattle.phase_board.specs.declared.plays.Role.{Role}
 use Rattle.phase_board.specs.declared.plays.Role.TheVariants.{Of}
-use Rattle.phase_board.specs.Rule.{course_of, S, Kept, found_by, IsOf, Stands}
-use Rattle.phase_board.specs.Moments.{Stays, HoldsUnit, IsSoundMoment}
+use Rattle.phase_board.specs.Rule.{course_of, S, Kept, found_by, Stands}
+use Rattle.phase_board.specs.Moments.{Stays, IsSoundMoment}
 use Rattle.phase_board.proofs.Moves.{sound_of}
 
 module _ (r : Run) (s : State S View) (h : Kept r s) where

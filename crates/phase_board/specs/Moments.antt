@@ -11,7 +11,7 @@ use Rattle.team_core.specs.Runs.{IsSafeStore}
 use Rattle.phase_board.specs.declared.plays.Run.{Run}
 use Rattle.phase_board.specs.declared.plays.View.{View}
 use Rattle.phase_board.specs.declared.plays.Role.TheVariants.{Of}
-use Rattle.phase_board.specs.Rule.{course_of, words_of, view, S}
+use Rattle.phase_board.specs.Rule.{course_of, words_of, S}
 
 -- the pass of this number is the member m at the phase t, in this state and with or without the mark
 abbrev pub Stays : Run → State S View → ℕ → ℕ → ℕ → MemberState → Bool → Type 0
