@@ -1,20 +1,17 @@
 -- A pass in a unit as a place where the unit's loads and effects go.
-use Rattle.std.proofs.Common.{◌≡◌, ◌⊎◌, inl, inr, ℕ, false, None, suc, ◌<◌, List, [], ◌∷◌, length, take, drop, sym, refl, ap, ◌∙◌, subst, arith}
+use Rattle.std.proofs.Common.{◌≡◌, ℕ, false, None, suc, ◌<◌, List, [], ◌∷◌, length, take, drop, sym, refl, ap, ◌∙◌, subst, arith}
 use mathlib.Core.Option.{some}
 use lib.ListN.{get_elem?}
 use Rattle.phase_ops.specs.declared.effect.Effect.{Effect}
 use Rattle.phase_ops.specs.declared.effect.Effect.TheVariants.{Store, Least}
-use Rattle.phase_ops.specs.declared.phase.Phase.{Phase}
-use Rattle.phase_ops.specs.Phases.{Cells, over, lay, parameter, unit_reads, strand_effects, reads, first_strand, strand_count, natural}
+use Rattle.phase_ops.specs.Phases.{Cells, over, lay, parameter, unit_reads, reads, natural}
 use Rattle.phase_ops.specs.Free.{In, count_value, Apart, WellFormed}
 use Rattle.phase_ops.specs.Course.{memory_after, work_at}
-use Rattle.phase_ops.proofs.Members.{in_either, in_right, from_each}
+use Rattle.phase_ops.proofs.Members.{in_right}
 use Rattle.phase_ops.proofs.Courses.{memory_is, key_is, phases_apart}
-use Rattle.phase_ops.proofs.Laying.{stored_is, lessened_is}
 use Rattle.act_eval.specs.Sites.{View}
 use Rattle.act_eval.specs.Strands.{PartialsFit, HasRoom, AreChunks, UnitBegins}
 use Rattle.act_eval.proofs.Leads.{lay_append}
-use Rattle.act_eval.proofs.InOrder.{strand_there}
 use Rattle.team_core.specs.declared.member.MemberState.{MemberState}
 use Rattle.team_core.specs.declared.member.MemberState.TheVariants.{Ready, Within, Out, Arrived, Ended}
 use Rattle.team_core.specs.Laws.{phase_at}
@@ -26,7 +23,8 @@ use Rattle.team_core.proofs.Scratches.{next_effect, none_left}
 use Rattle.phase_board.specs.declared.plays.Run.{Run}
 use Rattle.phase_board.specs.declared.board.Board.{Board}
 use Rattle.phase_board.specs.Held.{Held}
-use Rattle.phase_board.specs.Passes.{IsPassOf, in_state}
+use Rattle.phase_board.specs.Passes.{IsPassOf, IsNext, in_state}
+use Rattle.phase_board.proofs.Reach.{read_there, store_there, least_there}
 use Rattle.phase_board.specs.Rule.{course_of, acted_state, InUnit}
 use Rattle.unit_eval.specs.Sites.{view_at, view_of, HoldsUnit, Belongs, Claimed, Holds}
 
@@ -38,39 +36,11 @@ held_unit r t Arrived h = absurd h
 held_unit r t Ended h = absurd h
 
 module _ (r : Run) (t u d : ℕ) (h : InUnit r t u d) where
-  abbrev p : Phase
-  p = phase_at r.phases t
-
   abbrev m : Cells
   m = memory_after (course_of r) t
 
   abbrev es : List Effect
   es = (work_at (course_of r) t).effects u
-
-  well : WellFormed p m r.chunk
-  well = (enters_well r.phases r.opening r.team r.chunk t m h.may (record { there = h.there; keyless = h.keyless; cells_are = refl })).0
-
-  long : length m ≡ length r.opening
-  long = memory_long r.phases r.opening r.chunk r.team t (let l = h.there in omega (arith, l))
-
-  pub read_there : (c : ℕ) → In c ((work_at (course_of r) t).reads u) → c < length r.opening
-  read_there c i = by (in_either c (parameter p) (unit_reads p m r.chunk u) i)
-    where
-      by : In c (parameter p) ⊎ In c (unit_reads p m r.chunk u) → c < length r.opening
-      by (inl j) = let l = well.there c j in let e = long in omega (arith, l, e)
-      by (inr j) =
-          let x = from_each c (reads p m r.chunk) (first_strand p r.chunk u) (strand_count p m r.chunk u) j in
-          let l = well.loaded x.0 c (strand_there p m r.chunk u x.0 h.unit x.1 x.2) x.3 in let e = long in omega (arith, l, e)
-
-  pub store_there : (c v : ℕ) → In (Store c v) es → c < length r.opening
-  store_there c v i =
-      let x = from_each (Store c v) (strand_effects p m r.chunk) (first_strand p r.chunk u) (strand_count p m r.chunk u) i in
-      let l = well.laid x.0 c (strand_there p m r.chunk u x.0 h.unit x.1 x.2) (inl (stored_is c v (strand_effects p m r.chunk x.0) x.3)) in let e = long in omega (arith, l, e)
-
-  pub least_there : (c v : ℕ) → In (Least c v) es → c < length r.opening
-  least_there c v i =
-      let x = from_each (Least c v) (strand_effects p m r.chunk) (first_strand p r.chunk u) (strand_count p m r.chunk u) i in
-      let l = well.laid x.0 c (strand_there p m r.chunk u x.0 h.unit x.1 x.2) (inr (lessened_is c v (strand_effects p m r.chunk x.0) x.3)) in let e = long in omega (arith, l, e)
 
   pub next_is : (e : Effect) (more : List Effect) → drop d es ≡ e ∷ more → get_elem? es d ≡ some e
   next_is e more q = (next_effect es d e more q).1
@@ -102,13 +72,13 @@ module _ (b : Board) (q : Held) (has : Belongs b q) where
   pub look_there : (c : ℕ) → In c (view_of q).may → c < length b.run.opening
   look_there c i = in_opening c (read_there q.run q.phase held.0 held.1 held.3 c (subst (λ (v : View). In c v.may) opened i))
 
-  pub put_there : (c v : ℕ) (more : List Effect) → (view_of q).left ≡ Store c v ∷ more → c < length b.run.opening
+  put_there : (c v : ℕ) (more : List Effect) → (view_of q).left ≡ Store c v ∷ more → c < length b.run.opening
   put_there c v more l = in_opening c (store_there q.run q.phase held.0 held.1 held.3 c v (next_in q.run q.phase held.0 held.1 held.3 (Store c v) more (left_is (Store c v) more l)))
 
-  pub lessen_there : (c v : ℕ) (more : List Effect) → (view_of q).left ≡ Least c v ∷ more → c < length b.run.opening
+  lessen_there : (c v : ℕ) (more : List Effect) → (view_of q).left ≡ Least c v ∷ more → c < length b.run.opening
   lessen_there c v more l = in_opening c (least_there q.run q.phase held.0 held.1 held.3 c v (next_in q.run q.phase held.0 held.1 held.3 (Least c v) more (left_is (Least c v) more l)))
 
-  pub next_at : (e : Effect) (more : List Effect) → (view_of q).left ≡ e ∷ more → (u : ℕ) × (d : ℕ) × (q.state ≡ Within u d) × (get_elem? ((work_at (course_of b.run) q.phase).effects u) d ≡ some e)
+  pub next_at : (e : Effect) (more : List Effect) → (view_of q).left ≡ e ∷ more → IsNext b q e
   next_at e more l = (
     held.0,
     held.1,
@@ -134,6 +104,24 @@ done_holds k q q' h is =
     let acted : acted_state q.state ≡ Within k.unit (suc h.0) = ap (λ (x : Held). acted_state x.state) h.1 in
     let full : false ≡ q'.full = sym (ap (λ (x : Held). x.full) is) in
     (suc h.0, is ∙ (λ i. record (h.1 i) { state = acted i; full = full i }))
+
+-- the effect that is to come is this one
+module _ (b : Board) (q : Held) (k : Claimed) (has : Belongs b q × Holds k q) (effect e : Effect) (next : (more : List Effect) × ((view_of q).left ≡ effect ∷ more)) (is : effect ≡ e) where
+  comes : (view_of q).left ≡ e ∷ next.0
+  comes = next.1 ∙ ap (λ (x : Effect). x ∷ next.0) is
+
+  pub next_as : IsNext b q e
+  next_as = next_at b q has.0 e next.0 comes
+
+  pub small_store : (c v : ℕ) → e ≡ Store c v → c < 4294967296
+  small_store c v s = let l = put_there b q has.0 c v next.0 (comes ∙ ap (λ (x : Effect). x ∷ next.0) s) in let z = b.sized in omega (arith, l, z)
+
+  pub small_least : (c v : ℕ) → e ≡ Least c v → c < 4294967296
+  small_least c v s = let l = lessen_there b q has.0 c v next.0 (comes ∙ ap (λ (x : Effect). x ∷ next.0) s) in let z = b.sized in omega (arith, l, z)
+
+-- so it is done, and the pass holds its unit still
+pub acted_as : (b : Board) (q q' : Held) (k : Claimed) → Belongs b q × Holds k q → (effect : Effect) → ((more : List Effect) × ((view_of q).left ≡ effect ∷ more)) → q' ≡ in_state q (acted_state q.state) → Belongs b q' × Holds k q'
+acted_as b q q' k has effect next is = (done_belongs b q has.0 effect next.0 q' is next.1, done_holds k q q' has.1 is)
 
 -- all effects of the unit are done
 pub done_all : (b : Board) (k : Claimed) (q q' : Held) (u : ℕ) → k ≡ record { pass = q; unit = u } → IsPassOf b q → Belongs b q' → Holds k q' → (view_of q').left ≡ []

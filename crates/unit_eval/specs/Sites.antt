@@ -45,7 +45,7 @@ no_table = record { words = 0; slots = 0; views_name = 0; atom = 0; block = 0; o
 
 abbrev pub nobody : Claimed
 nobody = record {
-  pass = record { table = no_table; run = record { phases = []; opening = []; team = 0; chunk = 0 }; member = 0; phase = 0; state = Ended; full = false; registers = [] };
+  pass = record { table = no_table; run = record { phases = []; opening = []; team = 0; chunk = 0 }; member = 0; phase = 0; state = Ended; full = false; sights = []; registers = [] };
   unit = 0;
 }
 

@@ -32,10 +32,12 @@ impl<K: Runs> Site<Pass> for UnitSite<'_, K> {
 
     ghost belongs = { λ s p. Belongs s.board.now p × Holds K.claimed p };
 
+    #[inline(always)]
     fn look(&self, hand: &mut Pass, cell: u64) -> u64 {
         self.board.look(hand, cell as u32)
     }
 
+    #[inline(always)]
     fn act(&self, hand: &mut Pass, effect: Effect) {
         match effect {
             Effect::Store(cell, value) => self.board.put(hand, cell as u32, value),
