@@ -2,7 +2,6 @@
 use Rattle.std.proofs.Common.{◌≡◌, refl, sym, ap, ◌∙◌, ℕ, Bool, false, ◌+◌, ◌<◌, List, [], ◌∷◌, ◌++◌, length, map, drop, get_or, Option, Some, None}
 use Rattle.std.specs.Prelude.{⊤, ◌==◌}
 use Rattle.std.proofs.lemmas.Bool.{false≢true}
-use Rattle.std.proofs.lemmas.List.{drop_more}
 use Rattle.ws_base.specs.declared.name.Name.{Name}
 use Rattle.ws_tree.specs.declared.expr.Expr.{Expr}
 use Rattle.ws_tree.specs.declared.stmt.Index.{Index}
@@ -13,6 +12,7 @@ use Rattle.ws_tree.specs.declared.stmt.Body.TheVariants.{Masked, Forall, Loop, S
 use Rattle.ws_tree.specs.declared.stmt.Body.TheBlock.{hidden-the_row-Stmt-0, hidden-the_row-Else-1}
 use Rattle.ws_tree.specs.declared.stmt.Body.TheViews.{roll-Else, out-Else, roll-out-Else}
 use Rattle.ws_tree.specs.Opened.{trees_open}
+use Rattle.ws_types.proofs.Appended.{front}
 use Rattle.hlfir_ops.specs.declared.what.What.TheVariants as what
 use Rattle.hlfir_ops.specs.Built.{Built}
 use Rattle.lower_values.specs.declared.names.Names.{Names}
@@ -21,6 +21,7 @@ use Rattle.lower_values.specs.References.{declare_of}
 use Rattle.lower_values.specs.Values.{value}
 use Rattle.lower_assign.specs.Statements.{yielded, all_yielded}
 use Rattle.lower_values.proofs.Appended.{appends-by, appends-next, appends-scoped}
+use Rattle.lower_values.proofs.Turns.{LowersAll, lowers-next}
 use Rattle.lower_constructs.specs.Modules.{triple, triples, forall_mask, third, elsewhere, statement, statements, elsewheres, statement_list}
 use Rattle.lower_constructs.specs.Lists.{mask_of, else_part, else_list, third_of, forall_body}
 use Rattle.lower_constructs.specs.Filled.{Fills}
@@ -60,12 +61,15 @@ third-some (e ∷ es) empty is some = refl
 
 -- ---- items one after another
 
-pub front-item : {A : Type 0} (xs : List A) (i : ℕ) (x : A) → i < length xs → x ≡ get_or xs i x → drop i xs ≡ x ∷ drop (i + 1) xs
-front-item xs i x low is = drop_more xs i x low ∙ ap (λ y. y ∷ drop (i + 1) xs) (sym is)
-
 -- a lowering that makes nothing, and another one after it
 pub then : {names : Names} (p q : Lowering ⊤) {old mid new : Built} → Appends names p old mid tt → Appends names q mid new tt → Appends names (p >> q) old new tt
 then {names} p q {old} {mid} {new} first second = appends-next names p (λ _. q) old mid new tt tt first second
+
+-- one item more of a list that is lowered item by item
+pub next-lowered : {X : Type 0} (names : Names) (one : X → Lowering ⊤) (all : List X → Lowering ⊤) → ((x : X) (xs : List X) → all (x ∷ xs) ≡ (one x >> all xs)) → (xs : List X) (i : ℕ) (x : X) {initial build mid : Built} → i < length xs → x ≡ get_or xs i x →
+    LowersAll names (λ _. all) xs i initial build → Appends names (one x) build mid tt → LowersAll names (λ _. all) xs (i + 1) initial mid
+next-lowered names one all more xs i x low is before first =
+    lowers-next names (λ _. all) xs i x (front xs i x low is) before (λ new h. appends-by (sym (more x (drop (i + 1) xs))) refl (then (one x) (all (drop (i + 1) xs)) first h))
 
 -- ---- forms
 

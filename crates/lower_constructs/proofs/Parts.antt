@@ -57,15 +57,6 @@ pub declaration-is : (names : Names) (k : ℕ) (v : Variable) {old new : Built} 
 unfolding declaration
 declaration-is names k v {old} {new} {x} h = appends-map names (giving (what.Declare v.name) [] v.declare.kind) (λ _. tt) old new x h
 
-pub in_turn-none : {A : Type 0} (f : ℕ → A → Lowering ⊤) (k : ℕ) → in_turn f k [] ≡ done tt
-unfolding in_turn
-in_turn-none f k = refl
-
-pub in_turn-more : {A : Type 0} (names : Names) (f : ℕ → A → Lowering ⊤) (k : ℕ) (x : A) (xs : List A) {old mid new : Built} → Appends names (f k x) old mid tt → Appends names (in_turn f (k + 1) xs) mid new tt → Appends names (in_turn f k (x ∷ xs)) old new tt
-unfolding in_turn
-in_turn-more names f k x xs {old} {mid} {new} first rest =
-    appends-next names (f k x) (λ _. in_turn f (suc k) xs) old mid new tt tt first (appends-by (ap (λ j. in_turn f j xs) (add-one k)) refl rest)
-
 -- ---- sources
 
 -- what the builder of a source ends as

@@ -6,13 +6,13 @@ use Rattle.lower_values.specs.References.{declare_of}
 use Rattle.lower_assign.specs.Statements.{yielded, all_yielded}
 use Rattle.lower_values.specs.Values.{value}
 use Rattle.lower_values.proofs.Appended.{appends-by, if-map}
-use Rattle.lower_values.proofs.Turns.{lowers-next, lowers-done}
+use Rattle.lower_values.proofs.Turns.{lowers-done}
 use Rattle.ws_tree.specs.declared.stmt.Else.{out-Else}
 use Rattle.lower_constructs.specs.Filled.{Fills}
 use Rattle.lower_constructs.specs.Modules.{triple, triples, forall_mask, statement, statement_list}
 use Rattle.lower_constructs.specs.Lists.{mask_of, else_part, else_list}
 use Rattle.lower_constructs.proofs.Filling.{stands, inside, fills-one}
-use Rattle.lower_constructs.proofs.Blocks.{third-some, front-item, then, masked-lowered, forall-lowered, loop-lowered, shared-lowered, else-lowered}
+use Rattle.lower_constructs.proofs.Blocks.{third-some, then, next-lowered, masked-lowered, forall-lowered, loop-lowered, shared-lowered, else-lowered}
 use Rattle.lower_constructs.proofs.Weights.{stmts_weight, masked-falls, forall-falls, loop-falls, shared-falls, rest-falls, stmt-falls, else-falls, falls-to, part-falls}
 use Rattle.lower_constructs.proofs.constructs.+lowering.Goals as goal
 
@@ -23,11 +23,7 @@ statements-statement-requires t c = (stmt-falls t c.args.block.now c.each.stmt-i
 
 pub statements-each-preserved : goal.statements-each-preserved
 statements-each-preserved t c =
-    let xs = c.args.block.now in
-    let i = c.each.stmt-index in
-    let x = c.stmt-item.result in
-    lowers-next c.args.names.now (λ _. statement_list) xs i x (front-item xs i x c.each-test.true c.stmt-item.is) c.each.invariant
-    (λ new h. then (statement x.line x.body) (statement_list (drop (i + 1) xs)) c.in_ok-statement.ensures h)
+    next-lowered c.args.names.now (λ s. statement s.line s.body) statement_list (λ s ss. refl) c.args.block.now c.each.stmt-index c.stmt-item.result c.each-test.true c.stmt-item.is c.each.invariant c.in_ok-statement.ensures
 
 pub statements-returns : goal.statements-returns
 statements-returns t c = lowers-done c.args.names.now (λ _. statement_list) c.args.block.now c.each.stmt-index (omega arith) refl c.each.invariant
@@ -61,11 +57,7 @@ else_region-else_part-requires t c = (else-falls t c.args.rest.now c.each.part-i
 
 pub else_region-each-preserved : goal.else_region-each-preserved
 else_region-each-preserved t c =
-    let xs = c.args.rest.now in
-    let i = c.each.part-index in
-    let x = c.part-item.result in
-    lowers-next c.args.names.now (λ _. else_list) xs i x (front-item xs i x c.each-test.true c.part-item.is) c.each.invariant
-    (λ new h. then (else_part x) (else_list (drop (i + 1) xs)) c.in_ok-else_part.ensures h)
+    next-lowered c.args.names.now else_part else_list (λ e es. refl) c.args.rest.now c.each.part-index c.part-item.result c.each-test.true c.part-item.is c.each.invariant c.in_ok-else_part.ensures
 
 pub else_region-leave_region-requires : goal.else_region-leave_region-requires
 else_region-leave_region-requires t c =

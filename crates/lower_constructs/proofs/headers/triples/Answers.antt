@@ -1,7 +1,7 @@
 use Rattle.std.proofs.Common.{arith, drop, ◌+◌}
+use Rattle.ws_types.proofs.Appended.{front}
 use Rattle.lower_values.proofs.Turns.{makes-next, makes-done}
 use Rattle.lower_constructs.specs.Modules.{triples}
-use Rattle.lower_constructs.proofs.Blocks.{front-item}
 use Rattle.lower_constructs.proofs.Parts.{triples-none, triples-more}
 use Rattle.lower_constructs.proofs.headers.triples.Goals as goal
 
@@ -11,7 +11,7 @@ each-preserved c =
     let xs = c.args.indexes.now in
     let i = c.each.index-index in
     let x = c.index-item.result in
-    makes-next names (λ _. triples) xs i x c.each.all c.in_ok-three.three (front-item xs i x c.each-test.true c.index-item.is) c.in_ok-append.ensures c.each.invariant
+    makes-next names (λ _. triples) xs i x c.each.all c.in_ok-three.three (front xs i x c.each-test.true c.index-item.is) c.in_ok-append.ensures c.each.invariant
     (triples-more names x (drop (i + 1) xs) c.in_ok-three.ensures)
 
 pub returns : goal.returns
