@@ -79,9 +79,9 @@ pub fn take_turn<G: Gate>(board: &Board, pass: &mut Pass, gate: &G) -> Turn
     }
 }
 
-/// Now and then another thread gets the processor.
+/// Now and then another thread gets the processor from one that waits.
 fn pause(waited: u32) {
-    if waited % 1024 == 0 {
+    if waited % 64 == 63 {
         thread::yield_now();
     }
 }
