@@ -13,7 +13,7 @@ use Rattle.phase_ops.specs.declared.phase.ScalarOp.TheVariants.{Add}
 use Rattle.phase_ops.specs.declared.phase.Act.{Act}
 use Rattle.phase_ops.specs.declared.phase.Phase.{Phase}
 use Rattle.phase_ops.specs.Phases.{Cells, Event, Loads, Makes, loads, makes, divides, turn_of, went, Spot, spot, address, cell_value, register, ops_events, acts_events, strand_effects, after_phase, phase_effects}
-use Rattle.phase_ops.specs.Free.{In, stored, lessened, Apart, WellFormed, NameEarlier, IsChunk, FreeFrom}
+use Rattle.phase_ops.specs.Free.{In, stored, lessened, Apart, WellFormed, NameEarlier, IsChunk, JoinsAgree, FreeFrom}
 use Rattle.phase_ops.proofs.Strands.{lay_length}
 use Rattle.team_core.specs.Laws.{MayStart}
 use Rattle.team_core.specs.Shifts.{cell_from}
@@ -101,14 +101,17 @@ module _ (n : ℕ) (m : Cells) (few : n ≤ 65536) (room : 4 * n ≤ length m) (
 
 -- ---- again and again
 
-repeated_free : (times n chunk : ℕ) (before : Option Phase) (m : Cells) → n ≤ 65536 → 4 * n ≤ length m → FreeFrom chunk before (replicate times (added n)) m
-repeated_free zero n chunk before m few room = tt
-repeated_free (suc times) n chunk before m few room = (
-  tt,
+repeated_joins : (times n : ℕ) (before : Option Phase) → JoinsAgree before (replicate times (added n))
+repeated_joins zero n before = tt
+repeated_joins (suc times) n before = (tt, repeated_joins times n (Some (added n)))
+
+repeated_free : (times n chunk : ℕ) (m : Cells) → n ≤ 65536 → 4 * n ≤ length m → FreeFrom chunk (replicate times (added n)) m
+repeated_free zero n chunk m few room = tt
+repeated_free (suc times) n chunk m few room = (
   λ c ci. (added_apart n m few room c, added_well n m few room c),
-  λ none. repeated_free times n chunk (Some (added n)) (after_phase (added n) m chunk) few (let e = lay_length m (phase_effects (added n) m chunk) in omega (arith, e, room)),
+  λ none. repeated_free times n chunk (after_phase (added n) m chunk) few (let e = lay_length m (phase_effects (added n) m chunk) in omega (arith, e, room)),
 )
 
 pub repeated_may : (times n team chunk : ℕ) (m : Cells) → times ≤ 512 → n ≤ 65536 → 4 * n ≤ length m → 1 ≤ team → team ≤ 64 → IsChunk chunk → MayStart (replicate times (added n)) m team chunk
 repeated_may times n team chunk m short few room some most is =
-    record { someone = some; team_small = most; chunk_is = is; few = (let e = length-replicate times (added n) in omega (arith, e, short)); free = λ c ci. repeated_free times n c None m few room }
+    record { someone = some; team_small = most; chunk_is = is; few = (let e = length-replicate times (added n) in omega (arith, e, short)); free = record { joins = repeated_joins times n None; phases = λ c ci. repeated_free times n c m few room } }

@@ -60,4 +60,4 @@ module _ (ops : ℕ) (few : ops ≤ 1048576) (m : Cells) (chunk : ℕ) where
 
 pub idle_may : (ops team chunk : ℕ) (m : Cells) → ops ≤ 1048576 → 1 ≤ team → team ≤ 64 → IsChunk chunk → MayStart (idle ops ∷ []) m team chunk
 idle_may ops team chunk m few some most is =
-    record { someone = some; team_small = most; chunk_is = is; few = omega arith; free = λ c ci. (tt, λ d di. (idle_apart ops few m d, idle_well ops few m d), λ none. tt) }
+    record { someone = some; team_small = most; chunk_is = is; few = omega arith; free = record { joins = (tt, tt); phases = λ c ci. (λ d di. (idle_apart ops few m d, idle_well ops few m d), λ none. tt) } }

@@ -194,16 +194,16 @@ after_room : (k : CallWord) (n chunk : ℕ) (m : Cells) → length m ≡ 2 * n +
 after_room k n chunk m room = lay_length m (phase_effects (part k n) m chunk) ∙ room
 
 reduced_free : (k : CallWord) (n from : ℕ) (m : Cells) → n ≤ 65536 → from ≤ 1 → TakesIntegers k → IsNumbered n from m → FreeList (reduced k n) m
-reduced_free k n from m few low takes_all numbers chunk is =
-    let room = after_room k n chunk m numbers.room in (
-      tt,
-      λ c ci. (part_apart k n from m few low takes_all numbers c ci, part_well k n from m few low takes_all numbers c ci),
-      λ none. (
-        (refl, refl, refl, refl, refl),
-        λ c ci. (join_apart k n (after_phase (part k n) m chunk) few takes_all room c ci, join_well k n (after_phase (part k n) m chunk) few takes_all room c ci),
-        λ none'. tt,
-      ),
-    )
+reduced_free k n from m few low takes_all numbers = record {
+  joins = (tt, (refl, refl, refl, refl, refl), tt);
+  phases = λ chunk is. let room = after_room k n chunk m numbers.room in (
+    λ c ci. (part_apart k n from m few low takes_all numbers c ci, part_well k n from m few low takes_all numbers c ci),
+    λ none. (
+      λ c ci. (join_apart k n (after_phase (part k n) m chunk) few takes_all room c ci, join_well k n (after_phase (part k n) m chunk) few takes_all room c ci),
+      λ none'. tt,
+    ),
+  );
+}
 
 pub reduced_may : (k : CallWord) (n from team chunk : ℕ) (m : Cells) → n ≤ 65536 → from ≤ 1 → TakesIntegers k → IsNumbered n from m → 1 ≤ team → team ≤ 64 → IsChunk chunk → MayStart (reduced k n) m team chunk
 reduced_may k n from team chunk m few low takes_all numbers some most is =

@@ -1,5 +1,5 @@
 -- A pass in a unit as a place where the unit's loads and effects go.
-use Rattle.std.proofs.Common.{◌≡◌, ℕ, false, None, suc, ◌<◌, List, [], ◌∷◌, length, take, drop, sym, refl, ap, ◌∙◌, subst, arith}
+use Rattle.std.proofs.Common.{◌≡◌, ℕ, false, suc, ◌<◌, List, [], ◌∷◌, length, take, drop, sym, refl, ap, ◌∙◌, subst, arith}
 use mathlib.Core.Option.{some}
 use lib.ListN.{get_elem?}
 use Rattle.phase_ops.specs.declared.effect.Effect.{Effect}
@@ -149,7 +149,7 @@ module _ (r : Run) (t u : ℕ) (h : InUnit r t u 0) where
   apart =
       let b = h.there in
       subst (λ (m : Cells). Apart (phase_at r.phases t) m r.chunk) (sym (memory_is r.phases r.opening r.chunk r.team t (omega (arith, b))))
-      (phases_apart r.chunk h.may.chunk_is None r.phases r.opening (h.may.free r.chunk h.may.chunk_is) t b (λ s l. sym (key_is r.phases r.opening r.chunk r.team s (omega (arith, l, b))) ∙ h.keyless s l))
+      (phases_apart r.chunk h.may.chunk_is r.phases r.opening (h.may.free.phases r.chunk h.may.chunk_is) t b (λ s l. sym (key_is r.phases r.opening r.chunk r.team s (omega (arith, l, b))) ∙ h.keyless s l))
 
   pub unit_room : (registers : ℕ) → AreShort (phase_at r.phases t) registers → HasRoom (phase_at r.phases t) registers
   unit_room registers short = record { few_acts = known.0.few_acts; few_ops = λ a i. (short a i, (known.0.few_ops a i).0) }
