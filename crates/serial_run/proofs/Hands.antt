@@ -11,13 +11,14 @@ use Rattle.phase_ops.proofs.Members.{from_each}
 use Rattle.phase_ops.proofs.Strands.{lay_length}
 use Rattle.phase_ops.proofs.Keys.{key_holds}
 use Rattle.act_eval.specs.Sites.{View}
-use Rattle.act_eval.specs.Strands.{PartialsFit, HasRoom, AreChunks, UnitBegins}
+use Rattle.act_eval.specs.Strands.{HasRoom, AreChunks, UnitBegins}
 use Rattle.act_eval.proofs.Leads.{lay_append}
 use Rattle.act_eval.proofs.InOrder.{strand_there}
 use Rattle.team_core.proofs.Lists.{take_next, take_whole}
 use Rattle.team_core.proofs.Scratches.{next_effect, none_left}
 use Rattle.team_core.proofs.Sizes.{effects_few}
 use Rattle.serial_run.specs.declared.hand.Hand.{Hand}
+use Rattle.serial_run.proofs.Alone.{partials_alone}
 use Rattle.serial_run.specs.Hands.{key_after, Order, order_of, IsAt}
 
 least_snoc : (es : List Effect) (e : Effect) → least_key (es ++ e ∷ []) ≡ key_after e (least_key es)
@@ -87,14 +88,14 @@ module _ (p : Phase) (h : Hand) (free : Free p h.cells) (there : 0 < units p h.c
             well.loaded x.0 c (strand_there p h.cells 65536 0 x.0 there x.1 x.2) x.3;
       }
 
-  pub begins : (n : ℕ) → PartialsFit p h.cells 65536 → length h.cells < 4294967296 → AreChunks 65536 n → n ≡ natural (count_value p h.cells)
+  pub begins : (n : ℕ) → length h.cells < 4294967296 → AreChunks 65536 n → n ≡ natural (count_value p h.cells)
       → UnitBegins (record { left = drop h.done (effects p h.cells 65536 0); cells = h.cells; may = unit_reads p h.cells 65536 0 }) p 65536 n 0
-  begins n partials few chunks count = record {
+  begins n few chunks count = record {
     left_is = ap (λ (k : ℕ). drop k (effects p h.cells 65536 0)) none_done;
     may_read = λ c i. i;
     apart = free_apart p h.cells free;
     well = free_well p h.cells free;
-    partials = partials;
+    partials = partials_alone p h.cells (free_well p h.cells free);
     few_cells = omega (arith, few);
     chunks = chunks;
     count_is = count;

@@ -3,7 +3,7 @@
 ghost use Rattle.std.specs.Prelude.{◌≡◌, ◌<◌, ◌^◌, length, MatchResult};
 ghost use Rattle.phase_ops.specs.Phases.{natural, units, effects, lay, least_key, none_yet, after_phase, key as key_of};
 ghost use Rattle.phase_ops.specs.Free.{count_value, Free};
-ghost use Rattle.act_eval.specs.Strands.{AreChunks, PartialsFit};
+ghost use Rattle.act_eval.specs.Strands.{AreChunks};
 ghost use Rattle.serial_run.specs.Hands.{order_of, IsFaultOf};
 
 use crate::hand::Hand;
@@ -23,7 +23,6 @@ fn do_unit<K: Runs>(hand: &mut Hand, phase: &Phase, chunks: Chunks, registers: &
     requires order { K.order ≡ order_of phase.now hand.old.cells }
     requires start { (hand.old.done ≡ 0) × (hand.old.key ≡ none_yet) }
     requires free { Free phase.now hand.old.cells }
-    requires partials { PartialsFit phase.now hand.old.cells 65536 }
     requires chunks { (chunks.chunk ≡ 65536) × AreChunks chunks.chunk chunks.count }
     requires count { chunks.count ≡ natural (count_value phase.now hand.old.cells) }
     requires there { 0 < units phase.now hand.old.cells 65536 }
@@ -39,7 +38,6 @@ fn do_unit<K: Runs>(hand: &mut Hand, phase: &Phase, chunks: Chunks, registers: &
 fn do_phase(hand: &mut Hand, phase: &Phase, registers: &mut [i64])
     requires start { (hand.old.done ≡ 0) × (hand.old.key ≡ none_yet) }
     requires free { Free phase.now hand.old.cells }
-    requires partials { PartialsFit phase.now hand.old.cells 65536 }
     requires few { length hand.old.cells < 2 ^ 32 }
     requires room { length registers.old ≡ 1048576 }
     ensures cells { hand.new.cells ≡ after_phase phase.now hand.old.cells 65536 }
@@ -59,7 +57,6 @@ fn do_phase(hand: &mut Hand, phase: &Phase, registers: &mut [i64])
 /// the least key. Takes no memory.
 pub fn run_phase(memory: &mut Memory, phase: &Phase) -> Result<(), Fault>
     requires free { Free phase.now memory.old.cells }
-    requires partials { PartialsFit phase.now memory.old.cells 65536 }
     ensures cells { memory.new.cells ≡ after_phase phase.now memory.old.cells 65536 }
     ensures counts { (memory.new.regions ≡ memory.old.regions) × (memory.new.units ≡ memory.old.units) }
     ensures fault { MatchResult result (λ _. key_of phase.now memory.old.cells 65536 ≡ none_yet) (λ f. (key_of phase.now memory.old.cells 65536 < none_yet) × IsFaultOf phase.now (key_of phase.now memory.old.cells 65536) f) }

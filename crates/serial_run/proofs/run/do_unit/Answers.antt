@@ -13,7 +13,7 @@ pub run_strands-requires-clause-begins : goal.run_strands-requires-clause-begins
 run_strands-requires-clause-begins g c =
     let h = c.args.hand.now in let p = c.args.phase.now in
     subst (λ (x : Order × ℕ). UnitBegins (record { left = drop h.done x.0.effects; cells = h.cells; may = x.0.may }) p x.1 c.args.chunks.count 0) (λ i. (sym c.requires.order i, sym c.requires.chunks.0 i))
-    (begins p h c.requires.free c.requires.there c.requires.start.0 c.args.chunks.count c.requires.partials c.requires.few (subst (λ (k : ℕ). AreChunks k c.args.chunks.count) c.requires.chunks.0 c.requires.chunks.1) c.requires.count)
+    (begins p h c.requires.free c.requires.there c.requires.start.0 c.args.chunks.count c.requires.few (subst (λ (k : ℕ). AreChunks k c.args.chunks.count) c.requires.chunks.0 c.requires.chunks.1) c.requires.count)
 
 pub run_strands-requires-clause-room : goal.run_strands-requires-clause-room
 run_strands-requires-clause-room g c = has_room c.args.phase.now c.args.hand.now.cells (length c.args.registers.now) c.requires.free c.requires.room
