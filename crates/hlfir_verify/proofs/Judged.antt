@@ -1,17 +1,17 @@
 -- Ops judged one after another.
 use Rattle.std.proofs.Common.{◌≡◌, refl, ap, sym, ◌∙◌, subst, ℕ, suc, ◌+◌, ◌<◌, List, [], ◌∷◌, ◌++◌, length, get_or, take, drop, Option, Some, None, Result, Ok, Err, arith, add-one}
 use Rattle.std.specs.Result.{IsErrAnd}
+use Rattle.std.proofs.lemmas.List.{map-append}
 use Rattle.ws_base.specs.Outcomes.{◌>>=◌}
 use Rattle.hlfir_ops.specs.declared.what.What.{What}
-use Rattle.hlfir_ops.specs.declared.op.Op.{Op, out-Op, roll-Op, roll-out-Op}
-use Rattle.hlfir_ops.specs.declared.op.Region.{Region, out-Region, roll-Region, roll-out-Region}
-use Rattle.hlfir_ops.specs.declared.op.Op.TheBlock.{hidden-the_row-Region-0, hidden-the_row-Op-1}
-use Rattle.hlfir_ops.specs.Opened.{trees_open}
-use Rattle.hlfir_ops.specs.Numbers.{names_in, own_numbers, op_numbers, ops_numbers, numbers_of, numbers_in}
-use Rattle.hlfir_ops.specs.RulesPlaces.{Around, Place, Site, around_in, from_number, own_defined, op_sites, regions_sites, ops_sites, sites_of, sites_in}
+use Rattle.hlfir_ops.specs.declared.op.Op.{Op, out-Op}
+use Rattle.hlfir_ops.specs.declared.op.Region.{Region, out-Region}
+use Rattle.hlfir_ops.specs.Numbers.{names_in, own_numbers, op_numbers, numbers_of, numbers_in}
+use Rattle.hlfir_ops.specs.RulesPlaces.{Around, Place, Site, around_in, from_number, own_defined, op_sites, sites_of, sites_in}
 use Rattle.hlfir_ops.specs.Rules.{Facts}
-use Rattle.hlfir_ops.proofs.Numbered.{ops_numbers-list, op_numbers-parts}
-use Rattle.rule_tests.proofs.Appended.{front, before_next, map_append}
+use Rattle.hlfir_ops.proofs.Numbered.{op_numbers-parts}
+use Rattle.hlfir_ops.proofs.Sites.{op_sites-parts}
+use Rattle.rule_tests.proofs.Appended.{front, before_next}
 use Rattle.hlfir_verify.specs.declared.ending.Rule.{Rule}
 use Rattle.hlfir_verify.specs.declared.ending.VerifyEnd.{VerifyEnd}
 use Rattle.hlfir_verify.specs.declared.ending.VerifyEnd.TheVariants as end
@@ -39,45 +39,6 @@ handed_on : (r : Result (Unit {0}) VerifyEnd) (e : VerifyEnd) (at : ℕ) (whole 
 handed_on (Ok x) e at whole h t = absurd h
 handed_on (Err x) e at whole h t = let P : VerifyEnd → Type 0 = λ y. Told (Err y) at whole in subst P (sym h) t
 
--- ---- the sites of an op by its parts
-
-ops_sites-list : (a : Around) (before : List Op) (n : ℕ) (d : List ℕ) (ops : List Op) → ops_sites a before n d (hidden-the_row-Op-1 ops) ≡ sites_of a before n d ops
-unfolding trees_open
-ops_sites-list a before n d [] = refl
-ops_sites-list a before n d (op ∷ ops) =
-    ap (λ l. op_sites (record { around = a; before = before; number = n; defined = d }) op ++ l) (ops_sites-list a (before ++ op ∷ []) (op_numbers op + n) (d ++ own_defined n (out-Op op).kind) ops)
-
-regions_front : (a : Around) (w : What) (k n : ℕ) (d : List ℕ) (region : Region) (regions : List Region) → regions_sites a w k n d (hidden-the_row-Region-0 (roll-Region (out-Region region) ∷ regions)) ≡
-    ops_sites (around_in a w k) [] (length (names_in w k) + n) (d ++ from_number n (names_in w k)) (hidden-the_row-Op-1 (out-Region region).ops)
-    ++ regions_sites a w (suc k) ((length (names_in w k) + ops_numbers (hidden-the_row-Op-1 (out-Region region).ops)) + n) d (hidden-the_row-Region-0 regions)
-unfolding trees_open
-regions_front a w k n d region regions = refl
-
-regions_sites-list : (a : Around) (w : What) (k n : ℕ) (d : List ℕ) (regions : List Region) → regions_sites a w k n d (hidden-the_row-Region-0 regions) ≡ sites_in a w k n d regions
-unfolding trees_open
-regions_sites-list a w k n d [] = refl
-regions_sites-list a w k n d (region ∷ regions) =
-    let first = sites_of (around_in a w k) [] (length (names_in w k) + n) (d ++ from_number n (names_in w k)) (out-Region region).ops in
-    ap (λ r. regions_sites a w k n d (hidden-the_row-Region-0 (r ∷ regions))) (sym (roll-out-Region region))
-    ∙ (regions_front a w k n d region regions
-    ∙ (ap (λ l. l ++ regions_sites a w (suc k) ((length (names_in w k) + ops_numbers (hidden-the_row-Op-1 (out-Region region).ops)) + n) d (hidden-the_row-Region-0 regions))
-    (ops_sites-list (around_in a w k) [] (length (names_in w k) + n) (d ++ from_number n (names_in w k)) (out-Region region).ops)
-    ∙ (ap (λ m. first ++ regions_sites a w (suc k) ((length (names_in w k) + m) + n) d (hidden-the_row-Region-0 regions)) (ops_numbers-list (out-Region region).ops)
-    ∙ ap (λ l. first ++ l) (regions_sites-list a w (suc k) ((length (names_in w k) + numbers_of (out-Region region).ops) + n) d regions))))
-
-op_front : (p : Place) (op : Op) → op_sites p (roll-Op (out-Op op)) ≡
-    record { place = p; op = roll-Op (out-Op op) } ∷ regions_sites p.around (out-Op op).what 0 (own_numbers (out-Op op).kind + p.number) p.defined (hidden-the_row-Region-0 (out-Op op).regions)
-unfolding trees_open
-op_front p op = refl
-
-op_sites-parts : (p : Place) (op : Op) → op_sites p op ≡ (record { place = p; op = op }) ∷ sites_in p.around (out-Op op).what 0 (own_numbers (out-Op op).kind + p.number) p.defined (out-Op op).regions
-op_sites-parts p op =
-    let rest = regions_sites p.around (out-Op op).what 0 (own_numbers (out-Op op).kind + p.number) p.defined (hidden-the_row-Region-0 (out-Op op).regions) in
-    ap (op_sites p) (sym (roll-out-Op op))
-    ∙ (op_front p op
-    ∙ (ap (λ (o : Op). let s : Site = record { place = p; op = o } in s ∷ rest) (roll-out-Op op)
-    ∙ ap (λ l. let s : Site = record { place = p; op = op } in s ∷ l) (regions_sites-list p.around (out-Op op).what 0 (own_numbers (out-Op op).kind + p.number) p.defined (out-Op op).regions)))
-
 -- ---- an op, and those inside it
 
 pub inside_op : (f : Facts) (p : Place) (op : Op) (regions : List Region) (from at n : ℕ) (d : List ℕ) → judged from (verdict f (record { place = p; op = op }) ∷ []) ≡ Ok at → n ≡ own_numbers (out-Op op).kind + p.number →
@@ -104,7 +65,7 @@ next_sites : (f : Facts) (a : Around) (ops : List Op) (i : ℕ) (op : Op) (n : �
     verdicts f (sites_of a (take i ops) n d (drop i ops)) ≡ verdicts f (op_sites (here a ops i n d) op) ++ verdicts f (sites_of a (take (i + 1) ops) (op_numbers op + n) (d ++ own_defined n (out-Op op).kind) (drop (i + 1) ops))
 next_sites f a ops i op n d within is =
     ap (λ l. verdicts f (sites_of a (take i ops) n d l)) (front ops i op within is)
-    ∙ map_append (verdict f) (op_sites (here a ops i n d) op) (sites_of a (take i ops ++ op ∷ []) (op_numbers op + n) (d ++ own_defined n (out-Op op).kind) (drop (i + 1) ops))
+    ∙ map-append (verdict f) (op_sites (here a ops i n d) op) (sites_of a (take i ops ++ op ∷ []) (op_numbers op + n) (d ++ own_defined n (out-Op op).kind) (drop (i + 1) ops))
     ∙ ap (λ l. verdicts f (op_sites (here a ops i n d) op) ++ verdicts f (sites_of a l (op_numbers op + n) (d ++ own_defined n (out-Op op).kind) (drop (i + 1) ops))) (sym (before_next ops i op within is))
 
 pub next_judged : (f : Facts) (a : Around) (ops : List Op) (i : ℕ) (op : Op) (n n' p q : ℕ) (d d' : List ℕ) → i < length ops → op ≡ get_or ops i op → judged p (verdicts f (op_sites (here a ops i n d) op)) ≡ Ok q →
@@ -142,7 +103,7 @@ next_region : (f : Facts) (a : Around) (w : What) (regions : List Region) (k : �
     verdicts f (region_sites a w k n d (out-Region region).ops) ++ verdicts f (sites_in a w (k + 1) ((length (names_in w k) + numbers_of (out-Region region).ops) + n) d (drop (k + 1) regions))
 next_region f a w regions k region n d within is =
     ap (λ l. verdicts f (sites_in a w k n d l)) (front regions k region within is)
-    ∙ map_append (verdict f) (region_sites a w k n d (out-Region region).ops) (sites_in a w (suc k) ((length (names_in w k) + numbers_of (out-Region region).ops) + n) d (drop (k + 1) regions))
+    ∙ map-append (verdict f) (region_sites a w k n d (out-Region region).ops) (sites_in a w (suc k) ((length (names_in w k) + numbers_of (out-Region region).ops) + n) d (drop (k + 1) regions))
     ∙ ap (λ m. verdicts f (region_sites a w k n d (out-Region region).ops) ++ verdicts f (sites_in a w m ((length (names_in w k) + numbers_of (out-Region region).ops) + n) d (drop (k + 1) regions))) (sym (add-one k))
 
 pub region_judged : (f : Facts) (a : Around) (w : What) (regions : List Region) (k : ℕ) (region : Region) (n n' p q : ℕ) (d : List ℕ) → k < length regions → region ≡ get_or regions k region →

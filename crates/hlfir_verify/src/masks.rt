@@ -2,6 +2,7 @@
 
 ghost use Rattle.std.specs.Prelude.{◌≡◌, IfOk};
 ghost use Rattle.std.specs.List.{list_all};
+ghost use Rattle.hlfir_ops.specs.RulesRegions as held;
 ghost use Rattle.hlfir_ops.specs.RulesStatements as statements;
 ghost use Rattle.hlfir_ops.specs.RulesValues as values;
 ghost use Rattle.hlfir_ops.specs.Rules as rules;
@@ -9,11 +10,9 @@ ghost use Rattle.rule_tests.specs.Seen.{seen};
 ghost use Rattle.rule_tests.specs.Orders.{ops_of};
 
 use crate::statements::{all_in_where, are_elsewheres, is_forall_body, works_on_scalars};
-use hlfir_ops::{Op, Region, ValueId, ValueKind, What};
+use hlfir_ops::{Op, Region, ValueId, ValueKind, What, rank_of};
 use rule_limits::{ops_in_order, ops_inside};
-use rule_tests::{
-    Value, first_kind, have_rank, is_designate, is_mask, ops_in, parts_in, rank_of, value_at,
-};
+use rule_tests::{Value, first_kind, have_rank, is_designate, is_mask, ops_in, parts_in, value_at};
 use std::alloc::{AllocError, Global};
 
 /// What a mask controls has this rank: the left side of an assignment, and the mask of a where or elsewhere.
@@ -58,6 +57,14 @@ fn mask_fits(
     Ok(are_controlled(table, rank_of(kind), order.as_slice()))
 }
 
+/// So has the mask that the first of these regions yields.
+fn own_mask_fits(alloc: Global, table: &[Value], regions: &[Region]) -> Result<bool, AllocError>
+    ensures { IfOk result (λ b. b ≡ statements.mask_fits (seen table.now) (held.first_kind (seen table.now) (held.parts_in regions.now 0)) regions.now) }
+{
+    let kind = first_kind(table, parts_in(regions, 0));
+    mask_fits(alloc, table, kind, regions)
+}
+
 #[tactic(auto, unfolding(hlfir_ops::specs::Rules::where_of))]
 fn masked_fits(alloc: Global, table: &[Value], regions: &[Region]) -> Result<bool, AllocError>
     ensures { IfOk result (λ b. b ≡ rules.where_of (seen table.now) What.Masked regions.now) }
@@ -65,12 +72,7 @@ fn masked_fits(alloc: Global, table: &[Value], regions: &[Region]) -> Result<boo
     if !all_in_where(ops_in(regions, 1)) || !are_elsewheres(ops_in(regions, 2)) {
         return Ok(false);
     }
-    mask_fits(
-        alloc,
-        table,
-        first_kind(table, parts_in(regions, 0)),
-        regions,
-    )
+    own_mask_fits(alloc, table, regions)
 }
 
 #[tactic(auto, unfolding(hlfir_ops::specs::Rules::where_of))]
@@ -83,12 +85,7 @@ fn elsewhere_fits(alloc: Global, table: &[Value], regions: &[Region]) -> Result<
     if !all_in_where(ops_in(regions, 1)) {
         return Ok(false);
     }
-    mask_fits(
-        alloc,
-        table,
-        first_kind(table, parts_in(regions, 0)),
-        regions,
-    )
+    own_mask_fits(alloc, table, regions)
 }
 
 /// What a where and an elsewhere hold, and the type and rank of their masks.

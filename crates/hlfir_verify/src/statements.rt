@@ -4,81 +4,16 @@ ghost use Rattle.std.specs.Prelude.{◌≡◌};
 ghost use Rattle.std.specs.List.{list_all};
 ghost use Rattle.hlfir_ops.specs.RulesStatements as statements;
 
-use hlfir_ops::{Op, What};
+use hlfir_ops::{
+    Op, is_assign, is_elsewhere, is_forall, is_forall_mask, is_statement, is_where, is_whole_op,
+};
 use rule_limits::declares;
 use rule_tests::is_section;
-
-fn is_assign(what: &What) -> bool
-    ensures { result ≡ statements.is_assign what.now }
-{
-    match what {
-        What::Assign { .. } => true,
-        _ => false,
-    }
-}
-
-fn is_where(what: &What) -> bool
-    ensures { result ≡ statements.is_where what.now }
-{
-    match what {
-        What::Masked => true,
-        _ => false,
-    }
-}
-
-fn is_elsewhere(what: &What) -> bool
-    ensures { result ≡ statements.is_elsewhere what.now }
-{
-    match what {
-        What::Elsewhere => true,
-        _ => false,
-    }
-}
-
-fn is_forall(what: &What) -> bool
-    ensures { result ≡ statements.is_forall what.now }
-{
-    match what {
-        What::Forall(_) => true,
-        _ => false,
-    }
-}
-
-fn is_forall_mask(what: &What) -> bool
-    ensures { result ≡ statements.is_forall_mask what.now }
-{
-    match what {
-        What::ForallMask => true,
-        _ => false,
-    }
-}
-
-/// What stands in the module after its declares, and in a do_loop.
-fn is_statement(what: &What) -> bool
-    ensures { result ≡ statements.is_statement what.now }
-{
-    match what {
-        What::Assign { .. }
-        | What::Masked
-        | What::Forall(_)
-        | What::Workshare
-        | What::DoLoop
-        | What::Allocmem { .. }
-        | What::Freemem { .. }
-        | What::Read { .. } => true,
-        _ => false,
-    }
-}
 
 pub fn all_declare(ops: &[Op]) -> bool
     ensures { result ≡ list_all statements.declares ops.now }
 {
-    'each: for op in ops {
-        if !declares(op) {
-            return false;
-        }
-    }
-    true
+    ops.iter().all(|op| declares(op))
 }
 
 pub fn assigns(op: &Op) -> bool
@@ -90,24 +25,15 @@ pub fn assigns(op: &Op) -> bool
 pub fn all_assign(ops: &[Op]) -> bool
     ensures { result ≡ list_all statements.assigns ops.now }
 {
-    'each: for op in ops {
-        if !assigns(op) {
-            return false;
-        }
-    }
-    true
+    ops.iter().all(|op| assigns(op))
 }
 
 /// Assignments and where.
 pub fn all_in_where(ops: &[Op]) -> bool
     ensures { result ≡ list_all statements.stands_in_where ops.now }
 {
-    'each: for op in ops {
-        if !is_assign(&op.what) && !is_where(&op.what) {
-            return false;
-        }
-    }
-    true
+    ops.iter()
+        .all(|op| is_assign(&op.what) || is_where(&op.what))
 }
 
 fn stands_in_workshare(op: &Op) -> bool
@@ -120,12 +46,7 @@ fn stands_in_workshare(op: &Op) -> bool
 pub fn all_in_workshare(ops: &[Op]) -> bool
     ensures { result ≡ list_all statements.stands_in_workshare ops.now }
 {
-    'each: for op in ops {
-        if !stands_in_workshare(op) {
-            return false;
-        }
-    }
-    true
+    ops.iter().all(|op| stands_in_workshare(op))
 }
 
 pub fn stands_in_program(op: &Op) -> bool
@@ -138,12 +59,7 @@ pub fn stands_in_program(op: &Op) -> bool
 pub fn all_in_program(ops: &[Op]) -> bool
     ensures { result ≡ list_all statements.stands_in_program ops.now }
 {
-    'each: for op in ops {
-        if !stands_in_program(op) {
-            return false;
-        }
-    }
-    true
+    ops.iter().all(|op| stands_in_program(op))
 }
 
 /// Elsewheres, of which only the last one may have no mask.
@@ -166,15 +82,6 @@ pub fn is_forall_body(ops: &[Op]) -> bool
     match ops {
         [] => true,
         [first, more @ ..] => (is_forall_mask(&first.what) || assigns(first)) && all_assign(more),
-    }
-}
-
-fn is_whole_op(what: &What) -> bool
-    ensures { result ≡ statements.is_whole_op what.now }
-{
-    match what {
-        What::Reduce(_) | What::Vector | What::Elemental => true,
-        _ => false,
     }
 }
 

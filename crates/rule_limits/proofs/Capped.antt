@@ -2,8 +2,6 @@
 use Rattle.std.proofs.Common.{◌≡◌, refl, ap, sym, ◌∙◌, ℕ, ◌+◌, min, max, Bool, true, false, ◌&&◌, nat_le, cond, ◌==◌, ◌≤◌, drop, List, [], ◌∷◌, length, arith}
 use Rattle.std.proofs.Math.ListN.{drop_of_length-le}
 use Rattle.std.proofs.lemmas.Bool.Decides.{nat_tests}
-use Rattle.hlfir_ops.specs.declared.what.What.{What}
-use Rattle.hlfir_ops.specs.declared.what.What.TheVariants as what
 use Rattle.hlfir_ops.specs.declared.op.ValueId.{ValueId}
 use Rattle.hlfir_ops.specs.declared.op.Op.{Op, out-Op}
 use Rattle.hlfir_ops.specs.RulesValues.{Value, value_at, is_whole}
@@ -112,20 +110,19 @@ elsewhere_by : (b : Bool) (c : limits.Count) → cond b (capped c) (tallies.with
 elsewhere_by true c = refl
 elsewhere_by false c = new_mask c
 
-counted_as_capped : (vs : List Value) (c : limits.Count) (w : What) (os : List ValueId) (n : ℕ) → tallies.counted_as vs (capped c) w os n ≡ capped (limits.counted_as vs c w os n)
+with_added_capped : (vs : List Value) (c : limits.Count) (a : limits.Adds) (os : List ValueId) (n : ℕ) → tallies.with_added vs (capped c) a os n ≡ capped (limits.with_added vs c a os n)
 unfolding tallies.with_elsewhere
-counted_as_capped vs c what.Masked os n = new_mask c
-counted_as_capped vs c what.Elsewhere os n = elsewhere_by (n == 1) c
-counted_as_capped vs c what.ForallMask os n = new_mask c
-counted_as_capped vs c (what.Assign realloc) os n = ap tallies.with_assignment (after_capped c)
-counted_as_capped vs c (what.Forall names) os n = ap tallies.with_header (after_capped c)
-counted_as_capped vs c (what.Reduce reduction) os n = reduction_capped c
-counted_as_capped vs c (what.Designate subs) os n = wholes_capped vs c os
-counted_as_capped vs c _ os n = refl
+with_added_capped vs c limits.AddsNothing os n = refl
+with_added_capped vs c limits.AddsMask os n = new_mask c
+with_added_capped vs c limits.AddsElseMask os n = elsewhere_by (n == 1) c
+with_added_capped vs c limits.AddsAssignment os n = ap tallies.with_assignment (after_capped c)
+with_added_capped vs c limits.AddsHeader os n = ap tallies.with_header (after_capped c)
+with_added_capped vs c limits.AddsReduction os n = reduction_capped c
+with_added_capped vs c limits.AddsWholes os n = wholes_capped vs c os
 
 pub counted_capped : (vs : List Value) (c : limits.Count) (op : Op) → tallies.counted vs (capped c) op ≡ capped (limits.counted vs c op)
 unfolding tallies.counted
-counted_capped vs c op = counted_as_capped vs c (out-Op op).what (out-Op op).operands (length (out-Op op).regions)
+counted_capped vs c op = with_added_capped vs c (limits.adds_of (out-Op op).what) (out-Op op).operands (length (out-Op op).regions)
 
 pub all_capped : (vs : List Value) (c : limits.Count) (ops : List Op) → tallies.counted_all vs (capped c) ops ≡ capped (limits.counted_all vs c ops)
 all_capped vs c [] = refl

@@ -1,14 +1,15 @@
 -- Ops by reference, in printed order.
 use Rattle.std.proofs.Common.{◌≡◌, refl, ap, sym, ◌∙◌, ℕ, ◌+◌, ◌<◌, List, [], ◌∷◌, ◌++◌, length, drop, get_or, append_assoc}
 use Rattle.std.specs.Borrow.{Bor}
+use Rattle.std.proofs.lemmas.List.{map-append}
 use Rattle.hlfir_ops.specs.declared.op.Op.{Op, out-Op}
 use Rattle.hlfir_ops.specs.declared.op.Region.{Region}
 use Rattle.hlfir_ops.specs.Numbers.{op_order, order_of, order_in}
 use Rattle.hlfir_ops.proofs.Order.{op_order-parts}
 use Rattle.rule_tests.specs.Orders.{ops_of}
-use Rattle.rule_tests.proofs.Appended.{map_append, next}
+use Rattle.rule_tests.proofs.Appended.{next}
 
-pub ruleset push_rules = (map_append)
+pub ruleset push_rules = (map-append)
 
 -- a loop that appends each op and those inside it
 pub next_op : (ops : List Op) (i : ℕ) (op : Op) (regions : List Region) (old pushed now : List (Bor Op)) → i < length ops → op ≡ get_or ops i op → regions ≡ (out-Op op).regions →

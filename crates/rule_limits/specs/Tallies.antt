@@ -1,7 +1,6 @@
 -- How the code counts. A number that passes the greatest one stays there.
 use Rattle.std.specs.Prelude.{ℕ, ◌+◌, ◌==◌, true, false, if◌then◌else◌, min, max, List, [], ◌∷◌, length}
 use Rattle.hlfir_ops.specs.declared.what.What.{What}
-use Rattle.hlfir_ops.specs.declared.what.What.TheVariants as what
 use Rattle.hlfir_ops.specs.declared.op.ValueId.{ValueId}
 use Rattle.hlfir_ops.specs.declared.op.Op.{Op, out-Op}
 use Rattle.hlfir_ops.specs.RulesValues.{Value, value_at, is_whole}
@@ -53,15 +52,17 @@ with_wholes vs t (v ∷ more) = with_wholes vs (with_operand vs t v) more
 unfoldable pub with_elsewhere : Tally → ℕ → Tally
 with_elsewhere t regions = if regions == 1 then t else with_mask (after_assignment t)
 
+abbrev pub with_added : List Value → Tally → limits.Adds → List ValueId → ℕ → Tally
+with_added vs t limits.AddsNothing os regions = t
+with_added vs t limits.AddsMask os regions = with_mask (after_assignment t)
+with_added vs t limits.AddsElseMask os regions = with_elsewhere t regions
+with_added vs t limits.AddsAssignment os regions = with_assignment (after_assignment t)
+with_added vs t limits.AddsHeader os regions = with_header (after_assignment t)
+with_added vs t limits.AddsReduction os regions = with_reduction t
+with_added vs t limits.AddsWholes os regions = with_wholes vs t os
+
 abbrev pub counted_as : List Value → Tally → What → List ValueId → ℕ → Tally
-counted_as vs t what.Masked os regions = with_mask (after_assignment t)
-counted_as vs t what.Elsewhere os regions = with_elsewhere t regions
-counted_as vs t what.ForallMask os regions = with_mask (after_assignment t)
-counted_as vs t (what.Assign realloc) os regions = with_assignment (after_assignment t)
-counted_as vs t (what.Forall names) os regions = with_header (after_assignment t)
-counted_as vs t (what.Reduce reduction) os regions = with_reduction t
-counted_as vs t (what.Designate subs) os regions = with_wholes vs t os
-counted_as vs t _ os regions = t
+counted_as vs t w os regions = with_added vs t (limits.adds_of w) os regions
 
 unfoldable pub counted : List Value → Tally → Op → Tally
 counted vs t op = counted_as vs t (out-Op op).what (out-Op op).operands (length (out-Op op).regions)

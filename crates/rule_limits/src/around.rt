@@ -4,7 +4,7 @@ ghost use Rattle.std.specs.Prelude.{◌≡◌, IfSome};
 ghost use Rattle.hlfir_ops.specs.RulesPlaces as places;
 ghost use Rattle.rule_limits.specs.Arounds.{around_seen};
 
-use hlfir_ops::What;
+use hlfir_ops::{What, has_body, is_elemental, is_elsewhere, masks, shares};
 
 /// Whether an op stands in the module's own list, how many bodies of where, forall, do_loop and workshare are around it, and whether a where
 /// or forall, a workshare, an elemental is.
@@ -30,38 +30,7 @@ pub const OUTERMOST: Around = Around {
 fn is_body(what: &What, k: usize) -> bool
     ensures { result ≡ places.is_body what.now k }
 {
-    match what {
-        What::Masked | What::Forall(_) | What::DoLoop => k == 1,
-        What::Elsewhere | What::Workshare => true,
-        _ => false,
-    }
-}
-
-fn masks(what: &What) -> bool
-    ensures { result ≡ places.masks what.now }
-{
-    match what {
-        What::Masked | What::Forall(_) => true,
-        _ => false,
-    }
-}
-
-fn shares(what: &What) -> bool
-    ensures { result ≡ places.shares what.now }
-{
-    match what {
-        What::Workshare => true,
-        _ => false,
-    }
-}
-
-fn is_elemental(what: &What) -> bool
-    ensures { result ≡ places.is_elemental what.now }
-{
-    match what {
-        What::Elemental => true,
-        _ => false,
-    }
+    is_elsewhere(what) || has_body(what) && (shares(what) || k == 1)
 }
 
 fn one_if(test: bool) -> u32

@@ -11,7 +11,7 @@ ghost use Rattle.rule_tests.specs.Seen.{seen};
 use crate::around::Around;
 use crate::order::{is_small as is_small_order, ops_in_order, ops_inside};
 use crate::tally::{statement_count, step_count, sum_of};
-use hlfir_ops::{Op, ValueId, ValueKind, What};
+use hlfir_ops::{Op, ValueId, ValueKind, What, has_body, is_declare};
 use rule_tests::{Value, ops_in};
 use std::alloc::{AllocError, Global};
 use ws_space::Shape;
@@ -36,15 +36,6 @@ const PHASE_LIMIT: u32 = 512;
 
 /// The most temporaries.
 const TEMPORARY_LIMIT: u32 = 64;
-
-fn is_declare(what: &What) -> bool
-    ensures { result ≡ statements.is_declare what.now }
-{
-    match what {
-        What::Declare(_) => true,
-        _ => false,
-    }
-}
 
 pub fn declares(op: &Op) -> bool
     ensures { result ≡ statements.declares op.now }
@@ -99,15 +90,6 @@ fn is_small(kind: Option<ValueKind>) -> bool
         Some(ValueKind::Declared { shape, .. }) => is_small_shape(shape),
         Some(ValueKind::Allocatable { rank, .. }) => rank <= RANK_LIMIT,
         _ => true,
-    }
-}
-
-fn has_body(what: &What) -> bool
-    ensures { result ≡ limits.has_body what.now }
-{
-    match what {
-        What::Masked | What::Forall(_) | What::Workshare | What::DoLoop => true,
-        _ => false,
     }
 }
 

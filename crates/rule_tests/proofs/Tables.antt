@@ -3,12 +3,11 @@ use Rattle.std.proofs.Common.{◌≡◌, refl, ap, sym, ◌∙◌, ℕ, zero, su
 use Rattle.std.specs.Prelude.{slice_get}
 use Rattle.hlfir_ops.specs.declared.kinds.ValueKind.{ValueKind}
 use Rattle.hlfir_ops.specs.declared.what.What.{What}
-use Rattle.hlfir_ops.specs.declared.op.Op.{Op, out-Op, roll-Op, roll-out-Op}
-use Rattle.hlfir_ops.specs.declared.op.Region.{Region, out-Region, roll-Region, roll-out-Region}
-use Rattle.hlfir_ops.specs.declared.op.Op.TheBlock.{hidden-the_row-Region-0, hidden-the_row-Op-1}
-use Rattle.hlfir_ops.specs.Opened.{trees_open}
+use Rattle.hlfir_ops.specs.declared.op.Op.{Op, out-Op}
+use Rattle.hlfir_ops.specs.declared.op.Region.{Region, out-Region}
 use Rattle.hlfir_ops.specs.Numbers.{names_in}
 use Rattle.hlfir_ops.specs.RulesValues as values
+use Rattle.hlfir_ops.proofs.Valued.{op_values-parts}
 use Rattle.rule_tests.specs.declared.value.Value.{Value}
 use Rattle.rule_tests.specs.Seen.{seen, seen_as, value_seen}
 use Rattle.rule_tests.proofs.Appended.{append_none, front, next}
@@ -23,35 +22,6 @@ seen_append [] ws = refl
 seen_append (v ∷ vs) ws = ap (λ l. seen_as v ∷ l) (seen_append vs ws)
 
 pub ruleset seen_rules = (seen_append, append_none)
-
--- ---- the values of an op by its parts
-
-ops_values-list : (ops : List Op) → values.ops_values (hidden-the_row-Op-1 ops) ≡ values.values_of ops
-unfolding trees_open
-ops_values-list [] = refl
-ops_values-list (op ∷ ops) = ap (λ l. values.op_values op ++ l) (ops_values-list ops)
-
-regions_front : (w : What) (k : ℕ) (region : Region) (regions : List Region) → values.regions_values w k (hidden-the_row-Region-0 (roll-Region (out-Region region) ∷ regions)) ≡
-    (map values.value_of_name (names_in w k) ++ values.ops_values (hidden-the_row-Op-1 (out-Region region).ops)) ++ values.regions_values w (suc k) (hidden-the_row-Region-0 regions)
-unfolding trees_open
-regions_front w k region regions = refl
-
-regions_values-list : (w : What) (k : ℕ) (regions : List Region) → values.regions_values w k (hidden-the_row-Region-0 regions) ≡ values.values_in w k regions
-unfolding trees_open
-regions_values-list w k [] = refl
-regions_values-list w k (region ∷ regions) =
-    ap (λ r. values.regions_values w k (hidden-the_row-Region-0 (r ∷ regions))) (sym (roll-out-Region region))
-    ∙ (regions_front w k region regions
-    ∙ (ap (λ l. (map values.value_of_name (names_in w k) ++ l) ++ values.regions_values w (suc k) (hidden-the_row-Region-0 regions)) (ops_values-list (out-Region region).ops)
-    ∙ ap (λ l. (map values.value_of_name (names_in w k) ++ values.values_of (out-Region region).ops) ++ l) (regions_values-list w (suc k) regions)))
-
-op_front : (op : Op) → values.op_values (roll-Op (out-Op op)) ≡ values.own_values (out-Op op).what (out-Op op).kind ++ values.regions_values (out-Op op).what 0 (hidden-the_row-Region-0 (out-Op op).regions)
-unfolding trees_open
-op_front op = refl
-
-pub op_values-parts : (op : Op) → values.op_values op ≡ values.own_values (out-Op op).what (out-Op op).kind ++ values.values_in (out-Op op).what 0 (out-Op op).regions
-op_values-parts op =
-    ap values.op_values (sym (roll-out-Op op)) ∙ (op_front op ∙ ap (λ l. values.own_values (out-Op op).what (out-Op op).kind ++ l) (regions_values-list (out-Op op).what 0 (out-Op op).regions))
 
 -- ---- loops that add them
 

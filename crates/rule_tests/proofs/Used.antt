@@ -5,14 +5,14 @@ use Rattle.std.specs.Borrow.{Bor}
 use Rattle.std.specs.List.{flat_map}
 use Rattle.std.proofs.lemmas.Bool.{eq-eqb, ne_eqb}
 use Rattle.std.proofs.lemmas.Grind.{get_or-set_at}
-use Rattle.std.proofs.lemmas.List.{take_more}
+use Rattle.std.proofs.lemmas.List.{map-append, take_more}
 use Rattle.std.proofs.lemmas.List.Sums.{sum_by-append}
 use Rattle.hlfir_ops.specs.declared.op.Op.{Op, out-Op}
 use Rattle.hlfir_ops.specs.declared.op.ValueId.{ValueId}
 use Rattle.hlfir_ops.specs.Rules.{operand_numbers}
 use Rattle.rule_tests.specs.Orders.{ops_of}
 use Rattle.rule_tests.specs.Uses.{AreUses, AddsUses}
-use Rattle.rule_tests.proofs.Appended.{append_none, before_next, map_append}
+use Rattle.rule_tests.proofs.Appended.{append_none, before_next}
 
 either : (k n : ℕ) → (k ≡ n) ⊎ (k ≡ n → ⊥)
 either k n = grind arith
@@ -58,7 +58,7 @@ no_value = record { number = 0 }
 pub next_operand : (operands : List ValueId) (i : ℕ) (a b c : List ℕ) → i < length operands → AddsUses a b (map (λ v. v.number) (take i operands)) →
     AddsUses b c ((get_or operands i no_value).number ∷ []) → AddsUses a c (map (λ v. v.number) (take (i + 1) operands))
 next_operand operands i a b c within done one =
-    subst (AddsUses a c) (sym (ap (map (λ v. v.number)) (take_more operands i no_value within) ∙ map_append (λ v. v.number) (take i operands) (get_or operands i no_value ∷ [])))
+    subst (AddsUses a c) (sym (ap (map (λ v. v.number)) (take_more operands i no_value within) ∙ map-append (λ v. v.number) (take i operands) (get_or operands i no_value ∷ [])))
     (adds_both a b c (map (λ v. v.number) (take i operands)) ((get_or operands i no_value).number ∷ []) done one)
 
 flat_append : {X Y : Type 0} (f : X → List Y) (xs ys : List X) → flat_map f (xs ++ ys) ≡ flat_map f xs ++ flat_map f ys
@@ -69,7 +69,7 @@ pub next_use : (order : List (Bor Op)) (i : ℕ) (r : Bor Op) (operands : List V
     AddsUses a b (flat_map operand_numbers (ops_of (take i order))) → AddsUses b c (map (λ w. w.number) operands) → AddsUses a c (flat_map operand_numbers (ops_of (take (i + 1) order)))
 next_use order i r operands a b c within is same done more =
     subst (AddsUses a c)
-    (sym (ap (λ l. flat_map operand_numbers (ops_of l)) (before_next order i r within is) ∙ (ap (flat_map operand_numbers) (map_append (λ x. x.now) (take i order) (r ∷ [])) ∙ flat_append operand_numbers (ops_of (take i order)) (r.now ∷ []))))
+    (sym (ap (λ l. flat_map operand_numbers (ops_of l)) (before_next order i r within is) ∙ (ap (flat_map operand_numbers) (map-append (λ x. x.now) (take i order) (r ∷ [])) ∙ flat_append operand_numbers (ops_of (take i order)) (r.now ∷ []))))
     (adds_both a b c (flat_map operand_numbers (ops_of (take i order))) (flat_map operand_numbers (r.now ∷ [])) done
     (subst (AddsUses b c) (ap (map (λ w. w.number)) same ∙ sym (append_none (operand_numbers r.now))) more))
 

@@ -5,13 +5,12 @@ ghost use Rattle.hlfir_ops.specs.RulesStatements as statements;
 ghost use Rattle.hlfir_ops.specs.Rules as rules;
 ghost use Rattle.rule_tests.specs.Seen.{seen};
 
-use crate::kinds::{elem_of, rank_of, same_elem};
 use crate::regions::{
     ops_in, parts_in, yields_element, yields_header, yields_item, yields_pairs, yields_target,
     yields_triplet, yields_truth, yields_value,
 };
 use crate::value::{Value, first_kind, first_value, is_allocatable_declare};
-use hlfir_ops::{Region, ValueKind, What};
+use hlfir_ops::{Region, ValueKind, What, elem_of, rank_of, same_elem};
 
 /// A region that yields ends with a yield of its form.
 #[tactic(auto, unfolding(hlfir_ops::specs::Rules::yields_of))]

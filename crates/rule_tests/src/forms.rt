@@ -9,14 +9,15 @@ ghost use Rattle.rule_tests.specs.Seen.{seen, value_seen};
 
 use crate::kinds::{
     has_elem, has_rank, is_allocatable, is_array, is_index_vector, is_place, is_reference,
-    is_scalar, rank_of, same_elem,
+    is_scalar,
 };
 use crate::regions::{ops_in, parts_in};
 use crate::value::{
     Value, is_allocatable_declare, is_integer_declare, kind_at, only_kind, only_value,
 };
 use hlfir_ops::{
-    Elem, Op, Reduction, Region, SubKind, ValueBinary, ValueId, ValueKind, ValueUnary, What,
+    Elem, Op, Reduction, Region, SubKind, ValueId, ValueKind, What, operand_elem, rank_of,
+    reduced_elem, same_elem, unary_elem,
 };
 
 /// An op of this sort has so many regions.
@@ -149,33 +150,6 @@ fn has_dimension(dim: u32, kind: Option<ValueKind>) -> bool
     match kind {
         Some(kind) => 0 < dim && dim <= rank_of(kind),
         None => false,
-    }
-}
-
-pub fn unary_elem(op: ValueUnary) -> Elem
-    ensures { result ≡ forms.unary_elem op }
-{
-    match op {
-        ValueUnary::Neg | ValueUnary::Abs => Elem::I32,
-        ValueUnary::Not => Elem::I1,
-    }
-}
-
-fn operand_elem(op: ValueBinary) -> Elem
-    ensures { result ≡ forms.operand_elem op }
-{
-    match op {
-        ValueBinary::And | ValueBinary::Or | ValueBinary::Eqv | ValueBinary::Neqv => Elem::I1,
-        _ => Elem::I32,
-    }
-}
-
-fn reduced_elem(reduction: Reduction) -> Elem
-    ensures { result ≡ forms.reduced_elem reduction }
-{
-    match reduction {
-        Reduction::Sum | Reduction::Product | Reduction::Minval | Reduction::Maxval => Elem::I32,
-        Reduction::Count | Reduction::Any | Reduction::All => Elem::I1,
     }
 }
 

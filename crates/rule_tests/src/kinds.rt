@@ -3,40 +3,7 @@
 ghost use Rattle.std.specs.Prelude.{◌≡◌};
 ghost use Rattle.hlfir_ops.specs.RulesValues as values;
 
-use hlfir_ops::{Elem, ValueKind};
-
-pub fn same_elem(a: Elem, b: Elem) -> bool
-    ensures { result ≡ values.same_elem a b }
-{
-    match (a, b) {
-        (Elem::I32, Elem::I32) | (Elem::I1, Elem::I1) => true,
-        (Elem::I32, Elem::I1) | (Elem::I1, Elem::I32) => false,
-    }
-}
-
-pub fn elem_of(kind: ValueKind) -> Elem
-    ensures { result ≡ values.elem_of kind }
-{
-    match kind {
-        ValueKind::Scalar(elem) | ValueKind::Place(elem) => elem,
-        ValueKind::Declared { elem, .. } => elem,
-        ValueKind::Allocatable { elem, .. } => elem,
-        ValueKind::Section { elem, .. } => elem,
-        ValueKind::Array { elem, .. } => elem,
-    }
-}
-
-pub fn rank_of(kind: ValueKind) -> u32
-    ensures { result ≡ values.rank_of kind }
-{
-    match kind {
-        ValueKind::Scalar(_) | ValueKind::Place(_) => 0,
-        ValueKind::Declared { shape, .. } => shape.rank,
-        ValueKind::Allocatable { rank, .. } => rank,
-        ValueKind::Section { rank, .. } => rank,
-        ValueKind::Array { rank, .. } => rank,
-    }
-}
+use hlfir_ops::{Elem, ValueKind, elem_of, rank_of, same_elem};
 
 /// A scalar value of this type.
 pub fn is_scalar(elem: Elem, kind: Option<ValueKind>) -> bool
@@ -60,29 +27,23 @@ pub fn is_place_of(elem: Elem, kind: ValueKind) -> bool
 pub fn is_place(kind: Option<ValueKind>) -> bool
     ensures { result ≡ values.is_place kind }
 {
-    match kind {
-        Some(ValueKind::Place(_)) => true,
-        _ => false,
-    }
+    matches!(kind, Some(ValueKind::Place(_)))
 }
 
 pub fn is_allocatable(kind: Option<ValueKind>) -> bool
     ensures { result ≡ values.is_allocatable kind }
 {
-    match kind {
-        Some(ValueKind::Allocatable { .. }) => true,
-        _ => false,
-    }
+    matches!(kind, Some(ValueKind::Allocatable { .. }))
 }
 
 /// A reference to an array.
 pub fn is_reference(kind: Option<ValueKind>) -> bool
     ensures { result ≡ values.is_reference kind }
 {
-    match kind {
-        Some(ValueKind::Declared { .. } | ValueKind::Allocatable { .. }) => true,
-        _ => false,
-    }
+    matches!(
+        kind,
+        Some(ValueKind::Declared { .. } | ValueKind::Allocatable { .. })
+    )
 }
 
 /// A reference to an array, a section or an array value.
@@ -109,19 +70,13 @@ pub fn is_target(kind: Option<ValueKind>) -> bool
 pub fn is_expression(kind: Option<ValueKind>) -> bool
     ensures { result ≡ values.is_expression kind }
 {
-    match kind {
-        Some(ValueKind::Array { .. }) => true,
-        _ => false,
-    }
+    matches!(kind, Some(ValueKind::Array { .. }))
 }
 
 pub fn is_section(kind: Option<ValueKind>) -> bool
     ensures { result ≡ values.is_section kind }
 {
-    match kind {
-        Some(ValueKind::Section { .. }) => true,
-        _ => false,
-    }
+    matches!(kind, Some(ValueKind::Section { .. }))
 }
 
 pub fn has_elem(elem: Elem, kind: Option<ValueKind>) -> bool

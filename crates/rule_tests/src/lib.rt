@@ -11,7 +11,7 @@ mod value;
 
 pub use assignments::{realloc_fits, sides_fit, yields_fit};
 pub use forms::operands_fit;
-pub use kinds::{is_expression, is_mask, is_section, rank_of};
+pub use kinds::{is_expression, is_mask, is_section};
 pub use regions::{ops_in, parts, parts_in};
 pub use results::{have_rank, result_fits};
 pub use table::{names_at, uses_of, values_of};

@@ -7,7 +7,10 @@ ghost use Rattle.rule_tests.specs.Seen.{seen};
 
 use crate::kinds::{is_place, is_scalar, is_target};
 use crate::value::{Value, first_kind, first_value, is_vector_designate, kind_at};
-use hlfir_ops::{Elem, Op, Region, ValueId, ValueKind, What};
+use hlfir_ops::{
+    Elem, Op, Region, ValueId, ValueKind, is_apply, is_operation, is_value_op, is_yield,
+    is_yield_element,
+};
 use ws_base::Name;
 
 /// The ops of the region of this number, and none where there is no such region.
@@ -17,65 +20,6 @@ pub fn ops_in(regions: &[Region], k: usize) -> &[Op]
     match sqlite_items::at(regions, k) {
         Some(region) => region.ops.as_slice(),
         None => &[],
-    }
-}
-
-pub fn is_apply(what: &What) -> bool
-    ensures { result ≡ held.is_apply what.now }
-{
-    match what {
-        What::Apply => true,
-        _ => false,
-    }
-}
-
-fn is_operation(what: &What) -> bool
-    ensures { result ≡ held.is_operation what.now }
-{
-    match what {
-        What::Unary(_) | What::Binary(_) | What::Select => true,
-        _ => false,
-    }
-}
-
-fn is_value_op(what: &What) -> bool
-    ensures { result ≡ held.is_value_op what.now }
-{
-    match what {
-        What::Constant(_)
-        | What::Unary(_)
-        | What::Binary(_)
-        | What::Select
-        | What::Load
-        | What::Boxed
-        | What::Bound { .. }
-        | What::Size
-        | What::Allocated
-        | What::Designate(_)
-        | What::Vector
-        | What::AsExpr
-        | What::Elemental
-        | What::Apply
-        | What::Reduce(_) => true,
-        _ => false,
-    }
-}
-
-fn is_yield(what: &What) -> bool
-    ensures { result ≡ held.is_yield what.now }
-{
-    match what {
-        What::Yield => true,
-        _ => false,
-    }
-}
-
-fn is_yield_element(what: &What) -> bool
-    ensures { result ≡ held.is_yield_element what.now }
-{
-    match what {
-        What::YieldElement => true,
-        _ => false,
     }
 }
 
@@ -129,12 +73,7 @@ pub fn parts_in(regions: &[Region], k: usize) -> &[ValueId]
 fn give_values(ops: &[Op]) -> bool
     ensures { result ≡ list_all held.gives_value ops.now }
 {
-    'each: for op in ops {
-        if !is_value_op(&op.what) {
-            return false;
-        }
-    }
-    true
+    ops.iter().all(|op| is_value_op(&op.what))
 }
 
 /// Value ops, and last the one yield.
@@ -181,12 +120,7 @@ pub fn yields_truth(table: &[Value], ops: &[Op]) -> bool
 fn are_integers(table: &[Value], vs: &[ValueId]) -> bool
     ensures { result ≡ list_all (held.is_integer (seen table.now)) vs.now }
 {
-    'each: for v in vs {
-        if !is_scalar(Elem::I32, kind_at(table, *v)) {
-            return false;
-        }
-    }
-    true
+    vs.iter().all(|v| is_scalar(Elem::I32, kind_at(table, *v)))
 }
 
 fn yields_integers(table: &[Value], ops: &[Op]) -> bool
@@ -225,43 +159,26 @@ pub fn yields_pairs(table: &[Value], ops: &[Op]) -> bool
 fn is_any_scalar(kind: Option<ValueKind>) -> bool
     ensures { result ≡ held.is_any_scalar kind }
 {
-    match kind {
-        Some(ValueKind::Scalar(_)) => true,
-        _ => false,
-    }
+    matches!(kind, Some(ValueKind::Scalar(_)))
 }
 
 fn work_on_elements(ops: &[Op]) -> bool
     ensures { result ≡ list_all held.works_on_elements ops.now }
 {
-    'each: for op in ops {
-        if !is_apply(&op.what) && !is_operation(&op.what) {
-            return false;
-        }
-    }
-    true
+    ops.iter()
+        .all(|op| is_apply(&op.what) || is_operation(&op.what))
 }
 
 fn some_apply(ops: &[Op]) -> bool
     ensures { result ≡ list_any held.applies ops.now }
 {
-    'each: for op in ops {
-        if is_apply(&op.what) {
-            return true;
-        }
-    }
-    false
+    ops.iter().any(|op| is_apply(&op.what))
 }
 
 fn some_operate(ops: &[Op]) -> bool
     ensures { result ≡ list_any held.operates ops.now }
 {
-    'each: for op in ops {
-        if is_operation(&op.what) {
-            return true;
-        }
-    }
-    false
+    ops.iter().any(|op| is_operation(&op.what))
 }
 
 /// The body of an elemental applies arrays and works on their elements.

@@ -7,11 +7,13 @@ ghost use Rattle.hlfir_ops.specs.RulesValues as values;
 ghost use Rattle.hlfir_ops.specs.Rules as rules;
 ghost use Rattle.rule_tests.specs.Seen.{seen};
 
-use crate::forms::unary_elem;
-use crate::kinds::{elem_of, has_rank, is_scalar, rank_of, same_elem};
-use crate::regions::{is_apply, ops_in, parts_in};
+use crate::kinds::{has_rank, is_scalar};
+use crate::regions::{ops_in, parts_in};
 use crate::value::{Value, first_kind, kind_at};
-use hlfir_ops::{Elem, Op, Reduction, Region, SubKind, ValueBinary, ValueId, ValueKind, What};
+use hlfir_ops::{
+    Elem, Op, Region, SubKind, ValueId, ValueKind, What, elem_of, is_apply, rank_of, result_elem,
+    same_elem, total_elem, unary_elem,
+};
 
 /// What a declare gives: a scalar's place, an array or an allocatable.
 fn is_variable(kind: Option<ValueKind>) -> bool
@@ -33,32 +35,6 @@ fn has_constant(value: i64, kind: Option<ValueKind>) -> bool
         Some(ValueKind::Scalar(Elem::I32)) => -2_147_483_648 <= value && value <= 2_147_483_647,
         Some(ValueKind::Scalar(Elem::I1)) => value == 0 || value == 1,
         _ => false,
-    }
-}
-
-fn result_elem(op: ValueBinary) -> Elem
-    ensures { result ≡ forms.result_elem op }
-{
-    match op {
-        ValueBinary::Add
-        | ValueBinary::Sub
-        | ValueBinary::Mul
-        | ValueBinary::Div
-        | ValueBinary::Min
-        | ValueBinary::Max
-        | ValueBinary::Pow
-        | ValueBinary::Mod
-        | ValueBinary::Modulo => Elem::I32,
-        _ => Elem::I1,
-    }
-}
-
-fn total_elem(reduction: Reduction) -> Elem
-    ensures { result ≡ forms.total_elem reduction }
-{
-    match reduction {
-        Reduction::Any | Reduction::All => Elem::I1,
-        _ => Elem::I32,
     }
 }
 

@@ -10,29 +10,9 @@ ghost use Rattle.rule_tests.specs.Seen.{seen, source_seen};
 ghost use Rattle.rule_tests.specs.Uses.{AddsUses, AreUses};
 
 use crate::value::{Source, Value};
-use hlfir_ops::{Elem, Op, Region, SubKind, ValueId, ValueKind, What};
+use hlfir_ops::{Elem, Op, Region, ValueId, ValueKind, What, has_vector};
 use std::alloc::{AllocError, Global};
 use ws_base::Name;
-
-fn is_vector(sub: SubKind) -> bool
-    ensures { result ≡ values.is_vector sub }
-{
-    match sub {
-        SubKind::One | SubKind::Range => false,
-        SubKind::Vector => true,
-    }
-}
-
-fn has_vector(subs: &[SubKind]) -> bool
-    ensures { result ≡ values.has_vector subs.now }
-{
-    'each: for sub in subs {
-        if is_vector(*sub) {
-            return true;
-        }
-    }
-    false
-}
 
 fn source_of(what: &What) -> Source
     ensures { source_seen result ≡ values.source_of what.now }

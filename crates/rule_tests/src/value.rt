@@ -88,10 +88,7 @@ pub fn only_kind(table: &[Value], vs: &[ValueId]) -> Option<ValueKind>
 fn is_declares(source: Source) -> bool
     ensures { result ≡ values.is_declares (source_seen source) }
 {
-    match source {
-        Source::Declares => true,
-        _ => false,
-    }
+    matches!(source, Source::Declares)
 }
 
 /// The declare of an INTEGER scalar.
@@ -117,10 +114,7 @@ pub fn is_allocatable_declare(value: Option<Value>) -> bool
 fn is_designates(source: Source) -> bool
     ensures { result ≡ values.is_designates (source_seen source) }
 {
-    match source {
-        Source::Designates { .. } => true,
-        _ => false,
-    }
+    matches!(source, Source::Designates { .. })
 }
 
 /// A designator.
@@ -155,10 +149,7 @@ pub fn is_vector_designate(value: Option<Value>) -> bool
 fn is_lists(source: Source) -> bool
     ensures { result ≡ values.is_lists (source_seen source) }
 {
-    match source {
-        Source::Lists => true,
-        _ => false,
-    }
+    matches!(source, Source::Lists)
 }
 
 /// As a vector subscript it is evaluated whole.
