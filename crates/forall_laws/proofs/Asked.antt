@@ -24,16 +24,17 @@ use Rattle.array_meaning.specs.Forall as source
 use Rattle.array_meaning.specs.Forall.{Combination}
 use Rattle.array_meaning.specs.Stage1 as once
 use Rattle.hlfir_meaning.specs.Environments.{variable, Environment}
+use Rattle.hlfir_meaning.specs.Places.{over_ops}
 use Rattle.lower_values.specs.declared.operand.Operand.{Operand}
 use Rattle.lower_values.specs.Scopes.{Scope}
 use Rattle.lower_values.specs.Lowerings.{scoped, ◌>>=◌ as ◌then◌}
 use Rattle.lower_values.specs.References.{variable_of, or_nothing, declare_of, boxed, reference, first_name, dimension_in, bound_word, bound_or_size, is_allocated, inquiry_of, inquiry_or_nothing, inquiry}
 use Rattle.kind_laws.specs.Standing.{Knows}
 use Rattle.kind_laws.proofs.NoFaults.{impossible}
+use Rattle.value_laws.proofs.Walking.{does-then, does-scoped}
 use Rattle.world_laws.proofs.Fitting.{DeclaredAt, state_fits, is_below, refers}
 use Rattle.forall_laws.specs.Walks.{DoesOver, IsColumn, IsReference}
 use Rattle.forall_laws.specs.Combined.{StandsOver}
-use Rattle.forall_laws.proofs.Walking.{over-then, over-scoped}
 use Rattle.forall_laws.proofs.Columns.{each-over}
 use Rattle.forall_laws.proofs.References.{over-bound_or_size, over-is_allocated, over-boxed}
 use Rattle.forall_laws.proofs.Ranks.{inquiry_variable}
@@ -99,7 +100,7 @@ module _ (at : List ℕ) (of : ℕ → Combination) (s : Scope) (w : World) (n :
     -- the variable of this name
     pub over-reference : (none : ⊤) → DoesOver at s n env (reference x) (Ok none) (IsReference declared.var)
     unfolding reference
-    over-reference none = over-scoped at s n env (λ q. boxed (declare_of q.names x)) (Ok none) (IsReference declared.var)
+    over-reference none = does-scoped (over_ops at) s n env (λ q. boxed (declare_of q.names x)) (Ok none) (IsReference declared.var)
         (subst (λ y. DoesOver at s n env (boxed y) (Ok none) (IsReference declared.var)) (sym (declare_is s x d is)) (over-boxed at s n env d declared.var none found low))
 
     abbrev answers : CallWord → Option ℕ → VarState → Staged (List ℤ)
@@ -113,10 +114,10 @@ module _ (at : List ℕ) (of : ℕ → Combination) (s : Scope) (w : World) (n :
         DoesOver at s n env (if b then scoped (λ q. is_allocated (declare_of q.names x)) else (reference x then bound_or_size (bound_word word) dim)) (answers word dim declared.var.state) IsColumn
     asked_by word dim true none i a =
         subst (λ v. DoesOver at s n env (scoped (λ q. is_allocated (declare_of q.names x))) (answers v dim declared.var.state) IsColumn) (sym (allocated_word word a))
-        (over-scoped at s n env (λ q. is_allocated (declare_of q.names x)) (answers words.Allocated dim declared.var.state) IsColumn
+        (does-scoped (over_ops at) s n env (λ q. is_allocated (declare_of q.names x)) (answers words.Allocated dim declared.var.state) IsColumn
         (subst (λ y. DoesOver at s n env (is_allocated y) (answers words.Allocated dim declared.var.state) IsColumn) (sym (declare_is s x d is)) (over-is_allocated at s n env d declared.var found dim)))
     asked_by word dim false none i a =
-        over-then at s n env (reference x) (bound_or_size (bound_word word) dim) (Ok none) (λ (u : ⊤). answers word dim declared.var.state) (IsReference declared.var) IsColumn (over-reference none)
+        does-then (over_ops at) s n env (reference x) (bound_or_size (bound_word word) dim) (Ok none) (λ (u : ⊤). answers word dim declared.var.state) (IsReference declared.var) IsColumn (over-reference none)
         (λ u m middle at_m kept r. over-bound_or_size at s m middle (reference x s n).made declared.var r.found word i a dim)
 
     pub over-asked : (word : CallWord) (dim : Option ℕ) → is_inquiry word ≡ true → DoesOver at s n env (inquiry_of word x dim) (answers word dim (state_of w.vars x)) IsColumn

@@ -31,7 +31,7 @@ use Rattle.hlfir_ops.specs.RulesValues.{rank_of}
 use Rattle.hlfir_meaning.specs.Environments.{Environment}
 use Rattle.hlfir_meaning.specs.References.{held_values}
 use Rattle.hlfir_meaning.specs.Operators.{operation_map}
-use Rattle.hlfir_meaning.specs.Places.{place_in}
+use Rattle.hlfir_meaning.specs.Places.{place_in, over_ops}
 use Rattle.lower_values.specs.declared.operand.Operand.{Operand}
 use Rattle.lower_values.specs.Scopes.{Scope}
 use Rattle.lower_values.specs.Lowerings.{Lowering, done, ◌>>=◌ as ◌then◌}
@@ -44,20 +44,21 @@ use Rattle.kind_laws.proofs.TypeFacts.{no_type, unary_operand, binary_result, pa
 use Rattle.kind_laws.proofs.TypesKnown.{name_known}
 use Rattle.kind_laws.proofs.TypedExpressions.{type_known}
 use Rattle.kind_laws.proofs.FormsMade.{AreTyped}
+use Rattle.kind_laws.proofs.ScalarRanks.{both_zero, AllScalar, subscript_scalar, one_more, subscripts_scalar, no_vector, called_scalar}
 use Rattle.value_laws.specs.Standing.{Kept}
 use Rattle.value_laws.proofs.Columns.{IsNesting, totals, each-totals, call_map-last}
+use Rattle.value_laws.proofs.Walking.{does-done, does-then, bind-ok}
 use Rattle.world_laws.proofs.Fitting.{state_fits}
 use Rattle.forall_laws.specs.Walks.{DoesOver, IsColumn, AreColumns, IsReference, AreSubscripts, ArePlaces}
 use Rattle.forall_laws.specs.Combined.{StandsOver}
-use Rattle.forall_laws.proofs.Walking.{over-done, over-then}
 use Rattle.forall_laws.proofs.Columns.{rows-over, same-over, elements-placed}
 use Rattle.forall_laws.proofs.Given.{column-later, stands-later, over-constant}
 use Rattle.forall_laws.proofs.Names.{over-folded, over-named}
 use Rattle.forall_laws.proofs.Operations.{plain-rank, over-binary, over-operator, over-parentheses, over-unary, over-call}
 use Rattle.forall_laws.proofs.References.{over-designated, over-loaded}
 use Rattle.forall_laws.proofs.Asked.{asked_faults, over-reference, over-inquiry}
-use Rattle.forall_laws.proofs.Ranks.{both_zero, AllScalar, subscript_scalar, one_more, subscripts_scalar, no_vector, called_scalar, IsVariable, part_variable}
-use Rattle.forall_laws.proofs.Forms.{bind-ok, bind-bind, bind-same, over-call_by, nesting, AreTwo, two_taken, AreAllUnless, all_unless, values_many, three, one_subscript, IsSubscript, AreSubscripts-more}
+use Rattle.forall_laws.proofs.Ranks.{IsVariable, part_variable}
+use Rattle.forall_laws.proofs.Forms.{bind-bind, bind-same, over-call_by, nesting, AreTwo, two_taken, AreAllUnless, all_unless, values_many, three, one_subscript, IsSubscript, AreSubscripts-more}
 
 -- ---- expressions
 
@@ -90,10 +91,10 @@ module _ (t : List Row) (line : ℕ) (s : Scope) (k : Knows t s) (at : List ℕ)
       let declared = state_fits s.names w x d.0 stands.world d.1 in
       let v = declared.var in
       let u : ⊤ = tt in
-      over-then at s n env (reference x) (λ r. subscripts r 1 subs then designated r) (Ok u) (λ _. places x subs) (IsReference v) (ArePlaces v) (over-reference at of s w n env stands x d.0 d.1 u)
+      does-then (over_ops at) s n env (reference x) (λ r. subscripts r 1 subs then designated r) (Ok u) (λ _. places x subs) (IsReference v) (ArePlaces v) (over-reference at of s w n env stands x d.0 d.1 u)
       (λ _ m middle at_m kept h.
       let r = (reference x s n).made in
-      over-then at s m middle (subscripts r 1 subs) (designated r) (source.over_subs w subs combined) (λ cs. each (place_in (state_of w.vars x)) (rows at cs)) AreSubscripts (ArePlaces v)
+      does-then (over_ops at) s m middle (subscripts r 1 subs) (designated r) (source.over_subs w subs combined) (λ cs. each (place_in (state_of w.vars x)) (rows at cs)) AreSubscripts (ArePlaces v)
       (means r m middle (later n m env middle _ at_m kept stands))
       (λ cs j after at_j held ss. subst (λ q. DoesOver at s j after (designated r (subscripts r 1 subs s m).made) (each (place_in q) (rows at cs)) (ArePlaces v)) declared.state
       (over-designated at s j after r v (held r.value.number h.low ∙ h.found) (subscripts r 1 subs s m).made cs ss)))
@@ -111,7 +112,7 @@ module _ (t : List Row) (line : ℕ) (s : Scope) (k : Knows t s) (at : List ℕ)
       let declared = state_fits s.names w x d.0 stands.world d.1 in
       let v = declared.var in
       subst (λ r. DoesOver at s n env (part_of x (λ r. subscripts r 1 subs) then loaded) r IsColumn) (loaded_elements x subs)
-      (over-then at s n env (part_of x (λ r. subscripts r 1 subs)) loaded (places x subs) (λ ps. Ok (map (value_at (held_values (state_of w.vars x))) ps)) (ArePlaces v) IsColumn (part_placed x subs d means n env stands)
+      (does-then (over_ops at) s n env (part_of x (λ r. subscripts r 1 subs)) loaded (places x subs) (λ ps. Ok (map (value_at (held_values (state_of w.vars x))) ps)) (ArePlaces v) IsColumn (part_placed x subs d means n env stands)
       (λ ps m middle at_m kept h. subst (λ q. DoesOver at s m middle (loaded (part_of x (λ r. subscripts r 1 subs) s n).made) (Ok (map (value_at (held_values q)) ps)) IsColumn) declared.state
       (over-loaded at s m middle (part_of x (λ r. subscripts r 1 subs) s n).made v ps h)))
 
@@ -189,17 +190,17 @@ module _ (t : List Row) (line : ℕ) (s : Scope) (k : Knows t s) (at : List ℕ)
         (λ none i.
         let args = called_scalar t line word es ty i f h z in
         subst (λ q. DoesOver at s n env (values es then call_on word) q IsColumn) (called_all word es i)
-        (over-then at s n env (values es) (call_on word) (source.over_all w es combined) (call_map word at) AreColumns IsColumn (over-values es args.0 g.1 args.1 args.2 args.4 n env stands)
+        (does-then (over_ops at) s n env (values es) (call_on word) (source.over_all w es combined) (call_map word at) AreColumns IsColumn (over-values es args.0 g.1 args.1 args.2 args.4 n env stands)
         (λ cs m middle at_m kept are. over-call at s m middle (values es s n).made cs are word none i args.3 (λ is. values_many es s n ∙ three word es g.0 is))))
     over-value (Vector' _ es) ty g f h z n env stands = no_vector line (length (listed es)) (arguments t true no_arguments es) (none_after _ _ f)
     over-value (paren e) ty g f h z n env stands =
         over-folded at of s w n env stands (paren e) (value e then in_parentheses)
         (λ not. subst (λ r. DoesOver at s n env (value e then in_parentheses) r IsColumn) (bind-ok (source.over w e combined))
-        (over-then at s n env (value e) in_parentheses (source.over w e combined) (λ xs. Ok xs) IsColumn IsColumn (over-value e ty g f h z n env stands)
+        (does-then (over_ops at) s n env (value e) in_parentheses (source.over w e combined) (λ xs. Ok xs) IsColumn IsColumn (over-value e ty g f h z n env stands)
         (λ xs m middle at_m kept hx. over-parentheses at s m middle (value e s n).made xs hx)))
     over-value (unary op e) ty g f h z n env stands =
         over-folded at of s w n env stands (unary op e) (value e then unary_operation op)
-        (λ not. over-then at s n env (value e) (unary_operation op) (source.over w e combined) (unary_map op) IsColumn IsColumn
+        (λ not. does-then (over_ops at) s n env (value e) (unary_operation op) (source.over w e combined) (unary_map op) IsColumn IsColumn
         (over-value e ty g (none_first _ _ f) (unary_operand op (typed t true e) ty h) z n env stands)
         (λ xs m middle at_m kept hx. over-unary at s m middle op (value e s n).made xs hx))
     over-value (binary op a b) ty g f h z n env stands =
@@ -209,11 +210,11 @@ module _ (t : List Row) (line : ℕ) (s : Scope) (k : Knows t s) (at : List ℕ)
         let right = type_known t true line b no_right in
         let zero = both_zero left.0.rank right.0.rank (ap (λ y. y.rank) (binary_result op (typed t true a) (typed t true b) left.0 right.0 ty left.1 right.1 h) ∙ z) in
         over-folded at of s w n env stands (binary op a b) (value a then (λ x. value b then binary_operation (binary_of op) x))
-        (λ not. over-then at s n env (value a) (λ x. value b then binary_operation (binary_of op) x) (source.over w a combined) (λ xs. source.over w b combined >>= (λ ys. binary_map op combined xs ys)) IsColumn IsColumn
+        (λ not. does-then (over_ops at) s n env (value a) (λ x. value b then binary_operation (binary_of op) x) (source.over w a combined) (λ xs. source.over w b combined >>= (λ ys. binary_map op combined xs ys)) IsColumn IsColumn
         (over-value a left.0 g.0 no_left left.1 zero.0 n env stands)
         (λ xs m middle at_m kept hx.
         let x = (value a s n).made in
-        over-then at s m middle (value b) (binary_operation (binary_of op) x) (source.over w b combined) (λ ys. binary_map op combined xs ys) IsColumn IsColumn
+        does-then (over_ops at) s m middle (value b) (binary_operation (binary_of op) x) (source.over w b combined) (λ ys. binary_map op combined xs ys) IsColumn IsColumn
         (over-value b right.0 g.1 no_right right.1 zero.1 m middle (later n m env middle _ at_m kept stands))
         (λ ys j after at_j held hy.
         let y = (value b s m).made in
@@ -222,26 +223,26 @@ module _ (t : List Row) (line : ℕ) (s : Scope) (k : Knows t s) (at : List ℕ)
 
     pub over-values : {m : Count} (es : Exprs m) (tys : List Typed) → AreExprs es → all_faults t true line es ≡ [] → AreTyped t true es tys → AllScalar tys →
         (n : ℕ) (env : Environment) → StandsOver at of s w n env → DoesOver at s n env (values es) (source.over_all w es combined) AreColumns
-    over-values end_exprs tys g f h z n env stands = over-done at s n env [] [] AreColumns tt
+    over-values end_exprs tys g f h z n env stands = does-done (over_ops at) s n env [] [] AreColumns tt
     over-values (more_exprs e es) [] g f h z n env stands = absurd h
     over-values (more_exprs e es) (a ∷ tys) g f h z n env stands =
-        over-then at s n env (value e) (λ x. values es then (λ xs. done (x ∷ xs))) (source.over w e combined) (λ c. source.over_all w es combined >>= (λ cs. Ok (c ∷ cs))) IsColumn AreColumns
+        does-then (over_ops at) s n env (value e) (λ x. values es then (λ xs. done (x ∷ xs))) (source.over w e combined) (λ c. source.over_all w es combined >>= (λ cs. Ok (c ∷ cs))) IsColumn AreColumns
         (over-value e a g.0 (none_first _ _ f) h.0 z.0 n env stands)
         (λ c m middle at_m kept hx.
         let x = (value e s n).made in
-        over-then at s m middle (values es) (λ xs. done (x ∷ xs)) (source.over_all w es combined) (λ cs. Ok (c ∷ cs)) AreColumns AreColumns
+        does-then (over_ops at) s m middle (values es) (λ xs. done (x ∷ xs)) (source.over_all w es combined) (λ cs. Ok (c ∷ cs)) AreColumns AreColumns
         (over-values es tys g.1 (none_after _ _ f) h.1 z.1 m middle (later n m env middle _ at_m kept stands))
-        (λ cs j after at_j held are. over-done at s j after (x ∷ (values es s m).made) (c ∷ cs) AreColumns (column-later x c m j middle after (reached m j _ at_j) held hx, are)))
+        (λ cs j after at_j held are. does-done (over_ops at) s j after (x ∷ (values es s m).made) (c ∷ cs) AreColumns (column-later x c m j middle after (reached m j _ at_j) held hx, are)))
 
     over-nested : (op : ValueBinary) (word : CallWord) (f : ℤ → ℤ → ℤ) (total : ℤ → List ℤ → ℤ) (is : IsNesting op word f total) {m : Count} (es : Exprs m) (tys : List Typed) (x : Operand) (xs c : List ℤ) (pre : List (List ℤ)) →
         AreExprs es → all_faults t true line es ≡ [] → AreTyped t true es tys → AllScalar tys → SoFar op word f total is xs c pre → AreAllUnless es (Ok xs ≡ call_map word at (c ∷ pre)) →
         (n : ℕ) (env : Environment) → StandsOver at of s w n env → IsColumn x xs n env → DoesOver at s n env (nested op (Some x) es) (source.over_all w es combined >>= (λ ys. call_map word at (c ∷ (pre ++ ys)))) IsColumn
     over-nested op word f total is end_exprs tys x xs c pre g u h z so_far whole n env stands hx =
-        subst (λ r. DoesOver at s n env (done x) r IsColumn) (whole ∙ ap (λ q. call_map word at (c ∷ q)) (sym (append-nil pre))) (over-done at s n env x xs IsColumn hx)
+        subst (λ r. DoesOver at s n env (done x) r IsColumn) (whole ∙ ap (λ q. call_map word at (c ∷ q)) (sym (append-nil pre))) (does-done (over_ops at) s n env x xs IsColumn hx)
     over-nested op word f total is (more_exprs e es) [] x xs c pre g u h z so_far whole n env stands hx = absurd h
     over-nested op word f total is (more_exprs e es) (a ∷ tys) x xs c pre g u h z so_far whole n env stands hx =
         subst (λ r. DoesOver at s n env (nested op (Some x) (more_exprs e es)) r IsColumn) (all_bind e es (λ ys. call_map word at (c ∷ (pre ++ ys))))
-        (over-then at s n env (value e) (λ y. joined op (Some x) y then (λ v. nested op (Some v) es)) (source.over w e combined) (λ ys. source.over_all w es combined >>= (λ rest. call_map word at (c ∷ (pre ++ (ys ∷ rest))))) IsColumn IsColumn
+        (does-then (over_ops at) s n env (value e) (λ y. joined op (Some x) y then (λ v. nested op (Some v) es)) (source.over w e combined) (λ ys. source.over_all w es combined >>= (λ rest. call_map word at (c ∷ (pre ++ (ys ∷ rest))))) IsColumn IsColumn
         (over-value e a g.0 (none_first _ _ u) h.0 z.0 n env stands)
         (λ ys m middle at_m kept hy.
         let y = (value e s n).made in
@@ -249,7 +250,7 @@ module _ (t : List Row) (line : ℕ) (s : Scope) (k : Knows t s) (at : List ℕ)
         let only : ⊤ = tt in
         subst (λ r. DoesOver at s m middle (joined op (Some x) y then (λ v. nested op (Some v) es)) r IsColumn)
         (bind-same (source.over_all w es combined) (λ rest. call_map word at (c ∷ (more ++ rest))) (λ rest. call_map word at (c ∷ (pre ++ (ys ∷ rest)))) (λ rest. ap (λ q. call_map word at (c ∷ q)) (append_assoc pre (ys ∷ []) rest)))
-        (over-then at s m middle (binary_operation op x y) (λ v. nested op (Some v) es) (Ok only) (λ _. source.over_all w es combined >>= (λ rest. call_map word at (c ∷ (more ++ rest)))) (λ v o j after. IsColumn v (total_of op word f total is c more) j after) IsColumn
+        (does-then (over_ops at) s m middle (binary_operation op x y) (λ v. nested op (Some v) es) (Ok only) (λ _. source.over_all w es combined >>= (λ rest. call_map word at (c ∷ (more ++ rest)))) (λ v o j after. IsColumn v (total_of op word f total is c more) j after) IsColumn
         (joins op word f total is m middle x y xs ys c pre (column-later x xs n m env middle (reached n m _ at_m) kept hx) hy so_far)
         (λ o j after at_j held hv.
         over-nested op word f total is es tys (binary_operation op x y s m).made (total_of op word f total is c more) c more g.1 (none_after _ _ u) h.1 z.1 (so_far-more op word f total is c more)
@@ -263,35 +264,35 @@ module _ (t : List Row) (line : ℕ) (s : Scope) (k : Knows t s) (at : List ℕ)
     over-nested_first op word f total is (more_exprs e (more_exprs b es)) (a ∷ tys) two g u h z n env stands =
         let rest = more_exprs b es in
         subst (λ r. DoesOver at s n env (nested op None (more_exprs e rest)) r IsColumn) (all_bind e rest (call_map word at))
-        (over-then at s n env (value e) (λ y. joined op None y then (λ v. nested op (Some v) rest)) (source.over w e combined) (λ c. source.over_all w rest combined >>= (λ ys. call_map word at (c ∷ ys))) IsColumn IsColumn
+        (does-then (over_ops at) s n env (value e) (λ y. joined op None y then (λ v. nested op (Some v) rest)) (source.over w e combined) (λ c. source.over_all w rest combined >>= (λ ys. call_map word at (c ∷ ys))) IsColumn IsColumn
         (over-value e a g.0 (none_first _ _ u) h.0 z.0 n env stands)
         (λ c m middle at_m kept hy.
         let y = (value e s n).made in
         let only : ⊤ = tt in
-        over-then at s m middle (done y) (λ v. nested op (Some v) rest) (Ok only) (λ _. source.over_all w rest combined >>= (λ ys. call_map word at (c ∷ ys))) (λ v o j after. IsColumn v c j after) IsColumn
-        (over-done at s m middle y only (λ v o j after. IsColumn v c j after) hy)
+        does-then (over_ops at) s m middle (done y) (λ v. nested op (Some v) rest) (Ok only) (λ _. source.over_all w rest combined >>= (λ ys. call_map word at (c ∷ ys))) (λ v o j after. IsColumn v c j after) IsColumn
+        (does-done (over_ops at) s m middle y only (λ v o j after. IsColumn v c j after) hy)
         (λ o j after at_j held hv.
         over-nested op word f total is (more_exprs b es) tys (done y s m).made c c [] g.1 (none_after _ _ u) h.1 z.1 (λ ys. refl) tt j after (later m j middle after _ at_j held (later n m env middle _ at_m kept stands)) hv)))
 
     pub over-subscripts : {m : Count} (r : Operand) (dim : ℕ) (c : Subscripts) (ss : Subs m) → AreSubs ss → subs_faults t true line ss ≡ [] → (types.subscripts t true c ss).rank ≡ 0 →
         (n : ℕ) (env : Environment) → StandsOver at of s w n env → DoesOver at s n env (subscripts r dim ss) (source.over_subs w ss combined) AreSubscripts
-    over-subscripts r dim c end_subs g f h n env stands = over-done at s n env [] [] AreSubscripts tt
+    over-subscripts r dim c end_subs g f h n env stands = does-done (over_ops at) s n env [] [] AreSubscripts tt
     over-subscripts r dim c (more_subs (sub.One e) ss) g f h n env stands =
         let none = none_first _ _ (none_first _ _ f) in
         let one = type_known t true line e none in
         let next = subscripts_scalar t line (with_subscript c (typed t true e)) ss (none_after _ _ f) h in
         let zero = (subscript_scalar c one.0 (ap (λ o. (with_subscript c o).rank) (sym one.1) ∙ next)).1 in
-        over-then at s n env (subscript r dim (sub.One e)) (λ x. subscripts r (suc dim) ss then (λ xs. done (x ∷ xs))) (source.over w e combined) (λ v. source.over_subs w ss combined >>= (λ vs. Ok (v ∷ vs))) IsSubscript AreSubscripts
+        does-then (over_ops at) s n env (subscript r dim (sub.One e)) (λ x. subscripts r (suc dim) ss then (λ xs. done (x ∷ xs))) (source.over w e combined) (λ v. source.over_subs w ss combined >>= (λ vs. Ok (v ∷ vs))) IsSubscript AreSubscripts
         (subst (λ q. DoesOver at s n env (subscript r dim (sub.One e)) q IsSubscript) (bind-ok (source.over w e combined))
-        (over-then at s n env (value e) (λ x. done (subscript_of x)) (source.over w e combined) (λ v. Ok v) IsColumn IsSubscript (over-value e one.0 g.0 none one.1 zero n env stands)
+        (does-then (over_ops at) s n env (value e) (λ x. done (subscript_of x)) (source.over w e combined) (λ v. Ok v) IsColumn IsSubscript (over-value e one.0 g.0 none one.1 zero n env stands)
         (λ v m middle at_m kept hx.
         let x = (value e s n).made in
-        over-done at s m middle (subscript_of x) v IsSubscript (one_subscript (rank_of x.kind == 0) x v m middle (ap (λ j. j == 0) (plain-rank x.kind hx.plain)) hx))))
+        does-done (over_ops at) s m middle (subscript_of x) v IsSubscript (one_subscript (rank_of x.kind == 0) x v m middle (ap (λ j. j == 0) (plain-rank x.kind hx.plain)) hx))))
         (λ v m middle at_m kept hx.
         let x = (subscript r dim (sub.One e) s n).made in
-        over-then at s m middle (subscripts r (suc dim) ss) (λ xs. done (x ∷ xs)) (source.over_subs w ss combined) (λ vs. Ok (v ∷ vs)) AreSubscripts AreSubscripts
+        does-then (over_ops at) s m middle (subscripts r (suc dim) ss) (λ xs. done (x ∷ xs)) (source.over_subs w ss combined) (λ vs. Ok (v ∷ vs)) AreSubscripts AreSubscripts
         (over-subscripts r (suc dim) (with_subscript c (typed t true e)) ss g.1 (none_after _ _ f) h m middle (later n m env middle _ at_m kept stands))
-        (λ vs j after at_j held are. over-done at s j after (x ∷ (subscripts r (suc dim) ss s m).made) (v ∷ vs) AreSubscripts
+        (λ vs j after at_j held are. does-done (over_ops at) s j after (x ∷ (subscripts r (suc dim) ss s m).made) (v ∷ vs) AreSubscripts
         (AreSubscripts-more x (subscripts r (suc dim) ss s m).made v vs m j middle after (reached m j _ at_j) held hx are)))
     over-subscripts r dim c (more_subs (sub.Range' l u st) ss) g f h n env stands =
         let next : c.rank + 1 ≡ 0 = subscripts_scalar t line (types.with_sub t true c (sub.Range' l u st)) ss (none_after _ _ f) h in one_more c.rank next

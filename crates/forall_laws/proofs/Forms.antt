@@ -25,10 +25,6 @@ use Rattle.forall_laws.specs.Walks.{DoesOver, IsColumn, AreSubscripts}
 
 -- ---- outcomes
 
-pub bind-ok : {A : Type 0} (r : Staged A) → (r >>= (λ x. let q : Staged A = Ok x in q)) ≡ r
-bind-ok (Ok x) = refl
-bind-ok (Err t) = refl
-
 pub bind-bind : {A B C : Type 0} (r : Staged A) (f : A → Staged B) (g : B → Staged C) → ((r >>= f) >>= g) ≡ (r >>= (λ x. f x >>= g))
 bind-bind (Ok x) f g = refl
 bind-bind (Err t) f g = refl

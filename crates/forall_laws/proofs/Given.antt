@@ -16,16 +16,16 @@ use Rattle.hlfir_ops.specs.Trees.{op_of}
 use Rattle.hlfir_ops.proofs.Numbered.{op_numbers-op_of}
 use Rattle.hlfir_meaning.specs.Environments.{Value, Environment, with_value}
 use Rattle.hlfir_meaning.specs.Order.{ends}
-use Rattle.hlfir_meaning.specs.Places.{over, as_column}
+use Rattle.hlfir_meaning.specs.Places.{over, as_column, over_ops}
 use Rattle.lower_values.specs.declared.operand.Operand.{Operand}
 use Rattle.lower_values.specs.Scopes.{Scope, index_of}
 use Rattle.lower_values.specs.Lowerings.{giving}
 use Rattle.lower_values.specs.Operations.{constant}
 use Rattle.value_laws.specs.Standing.{Kept}
-use Rattle.value_laws.proofs.Walking.{with_value-here}
+use Rattle.value_laws.proofs.Walking.{with_value-here, goes-one, goes-weaker}
+use Rattle.value_laws.proofs.Ops.{over-op}
 use Rattle.forall_laws.specs.Walks.{DoesOver, IsPlain, IsColumn}
 use Rattle.forall_laws.specs.Combined.{IndexStands, StandsOver}
-use Rattle.forall_laws.proofs.Walking.{over-one, over-weaker}
 
 -- ---- later on
 
@@ -57,9 +57,9 @@ module _ (at : List ℕ) (s : Scope) (n : ℕ) (env : Environment) (w : What) (o
 
   pub over-giving : DoesOver at s n env (giving w os k) (over at env w os) Stands
   unfolding giving
-  over-giving = over-weaker at n env (op_of w s.line os (Some k) [] ∷ []) (λ v after. after ≡ with_value n v env)
+  over-giving = goes-weaker (over_ops at) n env (op_of w s.line os (Some k) [] ∷ []) (λ v after. after ≡ with_value n v env)
       (λ v after. Stands (record { value = record { number = n }; kind = k }) v (n + numbers_of (op_of w s.line os (Some k) [] ∷ [])) after) (over at env w os)
-      (λ v after _ is. (ap (λ f. f n) is ∙ with_value-here n v env, one_more)) (over-one at w s.line os (Some k) [] n env goes)
+      (λ v after _ is. (ap (λ f. f n) is ∙ with_value-here n v env, one_more)) (goes-one (over_ops at) w s.line os (Some k) [] n env (over at env w os) (λ rest. over-op w s.line os (Some k) [] at n env rest goes))
 
   module _ (plain : IsPlain k) where
     by_column : (r : Staged (List ℤ)) → DoesOver at s n env (giving w os k) (as_column r) Stands → DoesOver at s n env (giving w os k) r IsColumn

@@ -40,9 +40,10 @@ use Rattle.kind_laws.proofs.TypedExpressions.{type_known}
 use Rattle.kind_laws.proofs.Sides.{sides_are_expressions}
 use Rattle.kind_laws.proofs.Ends.{last_of-push}
 use Rattle.value_laws.specs.Standing.{Kept, Goes}
+use Rattle.value_laws.specs.Vectors.{VectorsAre}
 use Rattle.value_laws.proofs.Ops.{ending, parts-op_of}
 use Rattle.world_laws.specs.Yields.{region, scalars_of}
-use Rattle.world_laws.specs.Meanings.{StandsOutside, IsIntegerScalar, AreVectorsOf, ListsMean}
+use Rattle.world_laws.specs.Meanings.{StandsOutside, IsIntegerScalar, ListsMean}
 use Rattle.world_laws.proofs.Listing.{stride_of, triple_exprs, three, triple-list, numbers}
 use Rattle.world_laws.proofs.Yielding.{yield_of, yielded_ops, yield_subscripts}
 use Rattle.forall_laws.specs.Headers.{HeadersMean}
@@ -165,9 +166,9 @@ module _ (lists : ListsMean) (owned : SubscriptsAreOwn) (b : List Row) (line : �
       own_rest : OwnIn base next others.ops
       own_rest = triples_own is next stands_next rest
 
-      goes : AreVectorsOf vectors m xs → Goes vectors m env xs (scalars_of w (triple_exprs i.l i.u i.s)) (λ zs rho. map (λ x. rho x.value.number) (first.made ∷ second.made ∷ third.made ∷ []) ≡ map scalar zs)
+      goes : VectorsAre vectors m xs → Goes vectors m env xs (scalars_of w (triple_exprs i.l i.u i.s)) (λ zs rho. map (λ x. rho x.value.number) (first.made ∷ second.made ∷ third.made ∷ []) ≡ map scalar zs)
       goes v = subst (λ a. Goes vectors m env a.ops (scalars_of w (triple_exprs i.l i.u i.s)) (λ zs rho. map (λ x. rho x.value.number) a.made ≡ map scalar zs)) values-are
-          (lists b line (triple_exprs i.l i.u i.s) s m w vectors env stands agree (all_three b line i h) (subst (λ a. AreVectorsOf vectors m a.ops) (sym values-are) v))
+          (lists b line (triple_exprs i.l i.u i.s) s m w vectors env stands agree (all_three b line i h) (subst (λ a. VectorsAre vectors m a.ops) (sym values-are) v))
 
       agree_next : (rho : Environment) → Kept m env rho → Agree rho
       agree_next rho kept k low = kept k (let d = stands.declared in omega (arith, low, d)) ∙ agree k low
@@ -181,7 +182,7 @@ module _ (lists : ListsMean) (owned : SubscriptsAreOwn) (b : List Row) (line : �
       hz : EndsAt s ((m + numbers_of first.ops) + numbers_of second.ops) (value (stride_of i.s))
       hz = ends_scalar m (stride_of i.s) stands h.2 ((m + numbers_of first.ops) + numbers_of second.ops)
 
-      stepped_on : AreVectorsOf vectors m (xs ++ others.ops) → ((rho : Environment) → Agree rho → AreVectorsOf vectors next others.ops → axes vectors next rho others.made (others.ops ++ yield ∷ []) ≡ source.axes w is) →
+      stepped_on : VectorsAre vectors m (xs ++ others.ops) → ((rho : Environment) → Agree rho → VectorsAre vectors next others.ops → axes vectors next rho others.made (others.ops ++ yield ∷ []) ≡ source.axes w is) →
           axes vectors m env whole.made (whole.ops ++ yield ∷ []) ≡ source.axes w (i ∷ is)
       stepped_on all later =
           let ys = others.ops ++ yield ∷ [] in
@@ -194,7 +195,7 @@ module _ (lists : ListsMean) (owned : SubscriptsAreOwn) (b : List Row) (line : �
           (λ rho kept. ap (λ k. axes vectors k rho others.made ys) (let e : numbers_of xs + m ≡ next = omega arith in e) ∙ later rho (agree_next rho kept) (vectors-after base m stands.declared xs others.ops vectors all own_first))
           ∙ ap (on_axes is) (sym (stepping-three w i.l i.u i.s))))
 
-    axes_mean : (is : List Index) (m : ℕ) (env : Environment) → StandsOutside b s w m → Agree env → All (ThreeScalars b line) is → AreVectorsOf vectors m (triples is s m).ops →
+    axes_mean : (is : List Index) (m : ℕ) (env : Environment) → StandsOutside b s w m → Agree env → All (ThreeScalars b line) is → VectorsAre vectors m (triples is s m).ops →
         axes vectors m env (triples is s m).made ((triples is s m).ops ++ yield ∷ []) ≡ source.axes w is
     unfolding triples done
     axes_mean [] m env stands agree h v = ap (λ q. q >>= (λ y. let k : Staged (List Triplet) = Ok [] in k)) (ends m env)
@@ -203,7 +204,7 @@ module _ (lists : ListsMean) (owned : SubscriptsAreOwn) (b : List Row) (line : �
         let rest = All-tail (ThreeScalars b line) i is h in
         let are = triples-are i is m env stands agree here rest in
         subst (λ a. axes vectors m env a.made (a.ops ++ yield ∷ []) ≡ source.axes w (i ∷ is)) (sym are)
-        (stepped_on i is m env stands agree here rest (subst (λ a. AreVectorsOf vectors m a.ops) are v)
+        (stepped_on i is m env stands agree here rest (subst (λ a. VectorsAre vectors m a.ops) are v)
         (λ rho again them. axes_mean is (next i is m env stands agree here rest) rho (stands_next i is m env stands agree here rest) again rest them))
 
 -- ---- the whole region

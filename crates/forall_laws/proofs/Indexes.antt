@@ -21,10 +21,10 @@ use Rattle.hlfir_meaning.specs.Environments.{column, Environment, with_value}
 use Rattle.hlfir_meaning.specs.Combinations.{index_column, with_indexes}
 use Rattle.lower_values.specs.declared.names.Names.{Names}
 use Rattle.lower_values.specs.Scopes.{Scope, Indexed, index_of}
-use Rattle.lower_values.specs.Scopes as scopes
 use Rattle.kind_laws.specs.Standing.{NameIsKnown}
 use Rattle.kind_laws.specs.Laws.{index_names}
 use Rattle.kind_laws.proofs.NoFaults.{none_first, none_after, not_broken}
+use Rattle.kind_laws.proofs.ScopesKnown.{with_names, index_other}
 use Rattle.value_laws.proofs.Walking.{with_value-here, with_value-other}
 use Rattle.forall_laws.specs.Combined.{IndexStands}
 
@@ -53,19 +53,6 @@ apart t b line before (i ∷ is) x f h = by (apart t b line (before ++ i ∷ [])
       let once = not_broken (is_listed before i.name) line kind.DoVariable (none_after _ _ (none_first _ _ (none_first _ _ (none_first _ _ (none_first _ _ f))))) in
       absurd (true≢false (sym h ∙ (ap (is_listed before) (sym ((bytes_eq-Decides i.name x).0 same)) ∙ once)))
   by rest false same = rest
-
-abbrev with_names : ℕ → List Index → List Indexed → List Indexed
-with_names n is outer = scopes.with_indexes n (index_names is) outer
-
-none_listed : (b c : Bool) → (b || c) ≡ false → (b ≡ false) × (c ≡ false)
-none_listed true c h = absurd (true≢false h)
-none_listed false c h = (refl, h)
-
-not_indexed : (n : ℕ) (is : List Index) (outer : List Indexed) (x : Name) → is_listed is x ≡ false → index_of (with_names n is outer) x ≡ index_of outer x
-not_indexed n [] outer x h = refl
-not_indexed n (i ∷ is) outer x h =
-    let none = none_listed (bytes_eq i.name x) (is_listed is x) h in
-    not_indexed (suc n) is (record { name = i.name; value = record { number = n } } ∷ outer) x none.1 ∙ ap (λ b. if b then Some (record { number = n }) else index_of outer x) none.0
 
 -- a name of the header stands for an index
 standing_index : (t : List Row) (is : List Index) (x : Name) → is_listed is x ≡ true → standing_of (inner t is) x ≡ Some Index'
@@ -152,7 +139,7 @@ module _ (at : List ℕ) (ts : List Triplet) where
           IndexStands at (λ p. by_name (i ∷ is) (vals p)) names (with_indexes (suc n) (suc k) (index_names is) ts at next) (n + length (i ∷ is)) x (index_of (with_names (suc n) is more) x)
       by_name_here true same later =
           subst (IndexStands at (λ p. by_name (i ∷ is) (vals p)) names (with_indexes (suc n) (suc k) (index_names is) ts at next) (n + length (i ∷ is)) x)
-          (sym (not_indexed (suc n) is more x (apart t b line (before ++ i ∷ []) is x (none_after _ _ f) (listed_last before i x same)) ∙ ap (λ d. if d then Some (record { number = n }) else index_of outer x) same))
+          (sym (index_other (suc n) is more x (apart t b line (before ++ i ∷ []) is x (none_after _ _ f) (listed_last before i x same)) ∙ ap (λ d. if d then Some (record { number = n }) else index_of outer x) same))
           (record {
             values = λ p. value_at (indexes_at ts p) k;
             low = omega arith;

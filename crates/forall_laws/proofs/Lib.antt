@@ -1,4 +1,3 @@
-pub mod Walking
 pub mod Columns
 pub mod Given
 pub mod Constants

@@ -29,7 +29,7 @@ use Rattle.hlfir_ops.specs.declared.kinds.ValueKind.TheVariants as kind
 use Rattle.hlfir_ops.specs.declared.what.What.TheVariants as what
 use Rattle.hlfir_ops.specs.declared.op.ValueId.{ValueId}
 use Rattle.hlfir_meaning.specs.Environments.{Value as Worth, variable, column, Environment}
-use Rattle.hlfir_meaning.specs.Places.{loaded_at}
+use Rattle.hlfir_meaning.specs.Places.{loaded_at, over_ops}
 use Rattle.hlfir_meaning.specs.References.{held_scalar}
 use Rattle.lower_values.specs.declared.names.Names.{Names}
 use Rattle.lower_values.specs.declared.operand.Operand.{Operand}
@@ -43,12 +43,12 @@ use Rattle.value_laws.specs.Variables.{Fits}
 use Rattle.value_laws.specs.Names.{IfValue}
 use Rattle.kind_laws.specs.Standing.{FitsEntry, EntryIsKnown, NameIsKnown}
 use Rattle.kind_laws.proofs.TypeFacts.{no_type, same_type}
+use Rattle.value_laws.proofs.Walking.{does-done, does-then, does-scoped}
 use Rattle.world_laws.specs.Worlds.{constant_value, ConstantFits}
 use Rattle.world_laws.proofs.Fitting.{state_fits, absent_state}
 use Rattle.region_laws.proofs.Agreeing.{not-given}
 use Rattle.forall_laws.specs.Walks.{DoesOver, IsColumn}
 use Rattle.forall_laws.specs.Combined.{IndexStands, StandsOver}
-use Rattle.forall_laws.proofs.Walking.{over-done, over-then, over-scoped}
 use Rattle.forall_laws.proofs.Columns.{map-over, map-same, same-over, index-value, constant-value, variable-value}
 use Rattle.forall_laws.proofs.Constants.{NamesAreSame, constant-same}
 use Rattle.forall_laws.proofs.Given.{over-column, over-constant}
@@ -122,7 +122,7 @@ module _ (at : List ℕ) (of : ℕ → Combination) (s : Scope) (w : World) (n :
 
   pub over-folded : (e : Expr) (p : Lowering Operand) → (((z : ℤ) → constancy s.names.constants e ≡ Value z → ⊥) → DoesOver at s n env p (source.over w e combined) IsColumn) → DoesOver at s n env (folded e p) (source.over w e combined) IsColumn
   unfolding folded
-  over-folded e p h = over-scoped at s n env (λ q. constant_or (constancy q.names.constants e) p) (source.over w e combined) IsColumn
+  over-folded e p h = does-scoped (over_ops at) s n env (λ q. constant_or (constancy q.names.constants e) p) (source.over w e combined) IsColumn
       (by_value e p (constancy s.names.constants e) (constant-same s.names.constants w combined names_same e) h)
 
   -- ---- names
@@ -141,8 +141,8 @@ module _ (at : List ℕ) (of : ℕ → Combination) (s : Scope) (w : World) (n :
         let d : Operand = record { value = id; kind = kind.Place e } in
         let none : ⊤ = tt in
         with_values (boxed d then loaded) (λ _. z) (g z refl)
-        (over-then at s n env (boxed d) loaded (Ok none) (λ (u : ⊤). let r : Staged (List ℤ) = Ok (everywhere_same z at) in r) Anything IsColumn
-        (over-done at s n env d none Anything tt)
+        (does-then (over_ops at) s n env (boxed d) loaded (Ok none) (λ (u : ⊤). let r : Staged (List ℤ) = Ok (everywhere_same z at) in r) Anything IsColumn
+        (does-done (over_ops at) s n env d none Anything tt)
         (λ u m after at_m kept _. over-column at s m after what.Load (id ∷ []) (kind.Scalar e) refl tt (Ok (everywhere_same z at))
         (ap (λ y. let q : Staged Worth = Ok (column (loaded_at at y)) in q) (kept id.number low ∙ found) ∙ ap (λ y. let q : Staged Worth = Ok (column (everywhere_same (held_scalar y) at)) in q) is)))
     by_kind id v (kind.Place e) held low found is h r g = absurd h
@@ -166,9 +166,9 @@ module _ (at : List ℕ) (of : ℕ → Combination) (s : Scope) (w : World) (n :
         (i : Option ValueId) → index_of s.indexes x ≡ i → IndexStands at of s.names env n x i → DoesOver at s n env (index_or_other s x i) (Ok values) IsColumn
     by_index st ty h t z not (Some v) is index =
         with_values (done (record { value = v; kind = kind.Scalar I32 })) index.values (λ c. index-value w x (of c) (index.values c) (index.combined c))
-        (over-done at s n env (record { value = v; kind = kind.Scalar I32 }) (map index.values at) IsColumn (record { found = index.found; low = index.low; plain = tt }))
+        (does-done (over_ops at) s n env (record { value = v; kind = kind.Scalar I32 }) (map index.values at) IsColumn (record { found = index.found; low = index.low; plain = tt }))
     by_index st ty h t z not None is index = by_variable st ty h t z is index not (variable_of s.names.variables x) refl (stands.world.constants x)
 
     pub over-named : (st : Option Standing) (ty : Typed) → NameIsKnown s x st → name_type st ≡ Some ty → ty.rank ≡ 0 → ((z : ℤ) → known.constant_of s.names.constants x ≡ Value z → ⊥) → DoesOver at s n env (named x) (Ok values) IsColumn
     unfolding named
-    over-named st ty h t z not = over-scoped at s n env (λ q. index_or_other q x (index_of q.indexes x)) (Ok values) IsColumn (by_index st ty h t z not (index_of s.indexes x) refl (stands.indexes x))
+    over-named st ty h t z not = does-scoped (over_ops at) s n env (λ q. index_or_other q x (index_of q.indexes x)) (Ok values) IsColumn (by_index st ty h t z not (index_of s.indexes x) refl (stands.indexes x))

@@ -23,12 +23,12 @@ use Rattle.hlfir_meaning.specs.Environments.{Environment}
 use Rattle.hlfir_meaning.specs.Order.{ends}
 use Rattle.hlfir_meaning.specs.Operators as operators
 use Rattle.hlfir_meaning.specs.Operators.{operation_map, select_operation}
-use Rattle.hlfir_meaning.specs.Places.{over, as_column, column_at, columns_of}
+use Rattle.hlfir_meaning.specs.Places.{over, as_column, column_at, columns_of, over_ops}
 use Rattle.lower_values.specs.declared.operand.Operand.{Operand}
 use Rattle.lower_values.specs.Scopes.{Scope}
 use Rattle.lower_values.specs.Operations.{rank_from, arranged, values_of, on_scalars, operation, binary_of, binary_operation, value_of_whole, in_parentheses, unary_operation, nesting_of, what_of, call_elem, call_on}
+use Rattle.value_laws.proofs.Walking.{does-done}
 use Rattle.forall_laws.specs.Walks.{DoesOver, IsPlain, IsColumn, AreColumns}
-use Rattle.forall_laws.proofs.Walking.{over-done}
 use Rattle.forall_laws.proofs.Given.{over-column}
 
 -- ---- operands
@@ -107,7 +107,7 @@ module _ (at : List ℕ) (s : Scope) (n : ℕ) (env : Environment) where
       subst (λ o. DoesOver at s n env (binary_operation (binary_of op) x y) (operation_map o at (xs ∷ ys ∷ [])) IsColumn) (acts_as op) (over-binary (binary_of op) x y xs ys h g)
 
   whole_plain : (k : ValueKind) (x : Operand) (xs : List ℤ) → IsPlain k → IsColumn x xs n env → DoesOver at s n env (value_of_whole k x) (Ok xs) IsColumn
-  whole_plain (kind.Scalar e) x xs p h = over-done at s n env x xs IsColumn h
+  whole_plain (kind.Scalar e) x xs p h = does-done (over_ops at) s n env x xs IsColumn h
   whole_plain _ x xs p h = absurd p
 
   -- nothing is added to a scalar

@@ -23,7 +23,7 @@ use Rattle.hlfir_ops.specs.RulesValues.{elem_of}
 use Rattle.hlfir_ops.specs.RulesForms.{section_rank}
 use Rattle.hlfir_meaning.specs.Environments.{Value, variable, column, placed, Environment, state_in}
 use Rattle.hlfir_meaning.specs.References.{held_values, inquired}
-use Rattle.hlfir_meaning.specs.Places.{column_at, columns_of, loaded_at, place_in, designated, without_element, as_column}
+use Rattle.hlfir_meaning.specs.Places.{column_at, columns_of, loaded_at, place_in, designated, without_element, as_column, over_ops}
 use Rattle.lower_values.specs.declared.operand.Operand.{Operand}
 use Rattle.lower_values.specs.declared.operand.Subscript.{Subscript}
 use Rattle.lower_values.specs.declared.operand.Subscript.TheVariants.{One, Range, Vector}
@@ -31,8 +31,8 @@ use Rattle.lower_values.specs.Scopes.{Scope}
 use Rattle.lower_values.specs.Lowerings.{giving}
 use Rattle.lower_values.specs.References.{variable_of, or_nothing, declare_of, box_of, boxed, reference, load_of, loaded, sub_kind, sub_values, part_kind, bound, dimension, bound_word, bound_or_size, size, is_allocated}
 use Rattle.lower_values.specs.References as references
+use Rattle.value_laws.proofs.Walking.{does-done}
 use Rattle.forall_laws.specs.Walks.{DoesOver, IsColumn, IsReference, AreSubscripts, IsPlace, ArePlaces}
-use Rattle.forall_laws.proofs.Walking.{over-done}
 use Rattle.forall_laws.proofs.Given.{over-giving, over-column}
 
 -- ---- subscripts
@@ -156,7 +156,7 @@ module _ (at : List ℕ) (s : Scope) (n : ℕ) (env : Environment) where
     boxes = let h = subst (λ q. DoesOver at s n env (giving what.Boxed (d.value ∷ []) (kind.Allocatable e rank)) q (λ x y m after. (after x.value.number ≡ y) × (x.value.number < m)))
         (ap (λ y. let q : Staged Value = Ok y in q) found) (over-giving at s n env what.Boxed (d.value ∷ []) (kind.Allocatable e rank) refl) in
         (h.0, h.1, record { found = h.2.0; low = h.2.1 })
-  reference_by k d v none found low = over-done at s n env d none (IsReference v) (record { found = found; low = low })
+  reference_by k d v none found low = does-done (over_ops at) s n env d none (IsReference v) (record { found = found; low = low })
 
   pub over-boxed : (d : Operand) (v : Var) (none : ⊤) → env d.value.number ≡ variable v → d.value.number < n → DoesOver at s n env (boxed d) (Ok none) (IsReference v)
   unfolding boxed

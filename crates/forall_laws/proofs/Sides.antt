@@ -22,7 +22,7 @@ use Rattle.array_meaning.specs.Assign.{target_name}
 use Rattle.hlfir_ops.specs.declared.what.What.{What}
 use Rattle.hlfir_ops.specs.Numbers.{names_in}
 use Rattle.hlfir_meaning.specs.Environments.{Environment}
-use Rattle.hlfir_meaning.specs.Places.{column_at}
+use Rattle.hlfir_meaning.specs.Places.{column_at, over_ops}
 use Rattle.lower_values.specs.Scopes.{Scope, inside, index_of}
 use Rattle.lower_values.specs.Scopes as scopes
 use Rattle.lower_values.specs.Values.{value}
@@ -31,10 +31,10 @@ use Rattle.kind_laws.specs.Standing.{Knows}
 use Rattle.kind_laws.proofs.NoFaults.{none_first, none_after, not_broken, impossible, left_false, right_false}
 use Rattle.kind_laws.proofs.TypedExpressions.{type_known}
 use Rattle.kind_laws.proofs.Sides.{sides_are_expressions}
+use Rattle.value_laws.proofs.Walking.{does-scoped}
 use Rattle.world_laws.proofs.Fitting.{state_fits}
 use Rattle.forall_laws.specs.Walks.{IsColumn, ArePlaces}
 use Rattle.forall_laws.specs.Combined.{IndexStands, StandsOver}
-use Rattle.forall_laws.proofs.Walking.{over-scoped}
 use Rattle.forall_laws.proofs.Yields.{YieldsOver, over-yielded}
 use Rattle.forall_laws.proofs.Assigned.{IsValue, IsTarget}
 use Rattle.forall_laws.proofs.Expressions.{over-value}
@@ -119,7 +119,7 @@ module _ (t : List Row) (line : ℕ) (s : Scope) (k : Knows t s) (at : List ℕ)
         name = v.name;
         held = v.state;
         yields = over-yielded at s n env (left (Part' x h subs)) (source.over_targets w (Part' x h subs) (map of at)) (ArePlaces v.var) (IsTarget v.var) (λ ps after p. p.found)
-            (over-scoped at s n env (λ q. left_of q.masked (Part' x h subs)) (source.over_targets w (Part' x h subs) (map of at)) (ArePlaces v.var)
+            (does-scoped (over_ops at) s n env (λ q. left_of q.masked (Part' x h subs)) (source.over_targets w (Part' x h subs) (map of at)) (ArePlaces v.var)
             (over-target t line s k at of w x subs type.0 g.1 g.2 none type.1 (zero_rank (typed t true (Part' x h subs)) type.0 type.1 rank) n env stands d));
       }
   left-yielded TooDeep g f above some = impossible line kind.OverLimit (none_first _ _ (none_first _ _ f))

@@ -1,11 +1,9 @@
 -- What a walk through lowered ops over all active combinations leaves.
-use Rattle.std.specs.Prelude.{◌≡◌, ⊤, ℕ, ◌+◌, ◌<◌, List, [], ◌∷◌, ◌++◌, Ok, Err, ℤ}
+use Rattle.std.specs.Prelude.{◌≡◌, ⊤, ℕ, ◌<◌, List, [], ◌∷◌, ℤ}
 use Rattle.ws_base.specs.Outcomes.{Staged}
 use Rattle.ws_space.specs.declared.state.Var.{Var}
 use Rattle.hlfir_ops.specs.declared.kinds.ValueKind.{ValueKind}
 use Rattle.hlfir_ops.specs.declared.kinds.ValueKind.TheVariants.{Scalar, Place}
-use Rattle.hlfir_ops.specs.declared.op.Op.{Op}
-use Rattle.hlfir_ops.specs.Numbers.{numbers_of}
 use Rattle.hlfir_meaning.specs.Environments.{Environment, variable, column, placed}
 use Rattle.hlfir_meaning.specs.Places.{over_ops}
 use Rattle.lower_values.specs.declared.operand.Operand.{Operand}
@@ -13,21 +11,11 @@ use Rattle.lower_values.specs.declared.operand.Subscript.{Subscript}
 use Rattle.lower_values.specs.declared.operand.Subscript.TheVariants.{One}
 use Rattle.lower_values.specs.Scopes.{Scope}
 use Rattle.lower_values.specs.Lowerings.{Lowering}
-use Rattle.value_laws.specs.Standing.{Kept}
+use Rattle.value_laws.specs.Standing.{DoesBy}
 
--- from the value of this number on, the walk passes these ops without a fault
-pub record PassesOver (at : List ℕ) (n : ℕ) (env : Environment) (ops : List Op) (after : Environment) : Type 0 where
-  pub walked : (rest : List Op) → over_ops at n env (ops ++ rest) ≡ over_ops at (n + numbers_of ops) after rest
-  pub kept : Kept n env after
-
--- the walk through these ops ends in the same fault, or passes them and leaves what stands for the same value
-abbrev pub GoesOver : {A : Type 0} → List ℕ → ℕ → Environment → List Op → Staged A → (A → Environment → Type 0) → Type 0
-GoesOver at n env ops (Ok a) P = (after : Environment) × PassesOver at n env ops after × P a after
-GoesOver at n env ops (Err t) P = (rest : List Op) → over_ops at n env (ops ++ rest) ≡ Err t
-
--- the same of a lowering, from the next free number on; the relation is on what it made, the value, and the next free number after it
+-- the ops of this lowering, walked over the combinations at these places, leave what stands for the same value, or end in the same fault
 abbrev pub DoesOver : {A B : Type 0} → List ℕ → Scope → ℕ → Environment → Lowering A → Staged B → (A → B → ℕ → Environment → Type 0) → Type 0
-DoesOver at s n env p r Q = GoesOver at n env (p s n).ops r (λ b after. Q (p s n).made b (n + numbers_of (p s n).ops) after)
+DoesOver at s n env p r Q = DoesBy (over_ops at) s n env p r Q
 
 abbrev pub IsPlain : ValueKind → Type 0
 IsPlain (Scalar e) = Unit {0}

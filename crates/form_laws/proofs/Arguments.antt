@@ -1,9 +1,9 @@
 -- The types of the arguments of a call that breaks no rule.
-use Rattle.std.proofs.Common.{◌≡◌, refl, Bool, true, false, not, ◌&&◌, ◌||◌, List, [], ◌∷◌, Some, arith}
+use Rattle.std.proofs.Common.{◌≡◌, refl, Bool, true, false, not, ◌&&◌, ◌||◌, List, [], ◌∷◌, Some}
 use Rattle.std.proofs.lemmas.Bool.{true≢false}
 use Rattle.ws_types.specs.declared.types.Typed.{Typed}
 use Rattle.ws_types.specs.declared.types.Arguments.{Arguments}
-use Rattle.ws_types.specs.Operations.{differ, with_argument, no_arguments}
+use Rattle.ws_types.specs.Operations.{with_argument, no_arguments}
 use Rattle.kind_laws.proofs.Arguments.{argued}
 use Rattle.kind_laws.proofs.NoFaults.{left_false, right_false, not_false}
 
@@ -12,10 +12,6 @@ abbrev pub Each : Bool → List Typed → Type 0
 Each b [] = Unit {0}
 Each b (ty ∷ tys) = (ty.truth ≡ b) × Each b tys
 
-abbrev pub AreSingle : List Typed → Type 0
-AreSingle [] = Unit {0}
-AreSingle (ty ∷ tys) = (ty.rank ≡ 0) × AreSingle tys
-
 pub no_truths : (a : Arguments) (tys : List Typed) → (argued a tys).truths ≡ false → (a.truths ≡ false) × Each false tys
 no_truths a [] h = (h, tt)
 no_truths a (ty ∷ tys) h = let more = no_truths (with_argument a (Some ty)) tys h in (left_false a.truths ty.truth more.0, (right_false a.truths ty.truth more.0, more.1))
@@ -23,14 +19,6 @@ no_truths a (ty ∷ tys) h = let more = no_truths (with_argument a (Some ty)) ty
 pub no_numbers : (a : Arguments) (tys : List Typed) → (argued a tys).numbers ≡ false → (a.numbers ≡ false) × Each true tys
 no_numbers a [] h = (h, tt)
 no_numbers a (ty ∷ tys) h = let more = no_numbers (with_argument a (Some ty)) tys h in (left_false a.numbers (not ty.truth) more.0, (not_false ty.truth (right_false a.numbers (not ty.truth) more.0), more.1))
-
-pub no_ranks : (a : Arguments) (tys : List Typed) → (argued a tys).rank ≡ 0 → (a.rank ≡ 0) × AreSingle tys
-no_ranks a [] h = (h, tt)
-no_ranks a (ty ∷ tys) h = let more = no_ranks (with_argument a (Some ty)) tys h in (omega (arith, more.0), (omega (arith, more.0), more.1))
-
-pub not_mixed : (a : Arguments) (tys : List Typed) → (argued a tys).mixed ≡ false → a.mixed ≡ false
-not_mixed a [] h = h
-not_mixed a (ty ∷ tys) h = left_false a.mixed (differ a.rank ty.rank) (not_mixed (with_argument a (Some ty)) tys h)
 
 -- not both kinds
 pub one_type : (tys : List Typed) → ((argued no_arguments tys).truths && (argued no_arguments tys).numbers) ≡ false → (b : Bool) × Each b tys

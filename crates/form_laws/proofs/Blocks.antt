@@ -29,7 +29,7 @@ use Rattle.lower_assign.specs.Statements.{yielded, all_yielded, allocation, deal
 use Rattle.lower_constructs.specs.Modules.{triple, triples, forall_mask, elsewhere, statement, statements, elsewheres, statement_list}
 use Rattle.kind_laws.proofs.ScopesFound.{loop_variables_are_found}
 use Rattle.kind_laws.proofs.Grammar.{where_parts, forall_parts, loop_parts, shared_parts, allocated_parts, read_parts, no_else}
-use Rattle.kind_laws.proofs.Faultless.{where_faultless, else_faultless, forall_faultless, loop_faultless, shared_faultless, allocate_faultless, deallocate_faultless, read_faultless, each_faultless}
+use Rattle.kind_laws.proofs.Faultless.{where_faultless, else_faultless, forall_faultless, loop_faultless, shared_faultless, allocate_faultless, deallocate_faultless, read_faultless, each_faultless, IsOuter}
 use Rattle.kind_laws.proofs.NoFaults.{none_first, none_after}
 use Rattle.form_laws.proofs.Stages.{Stage, stage-region, stage-active, stage-barred, stage-inner}
 use Rattle.form_laws.proofs.Regions.{Walks, walks-done, walks-then, walks-scoped, walks-yielded, walks-all_yielded, walks-statement, walks-in_turn}
@@ -128,10 +128,6 @@ module _ (vs : List Value) where
         (walks-statement vs w own [] (statements block ∷ []) s refl (λ n. refl)
         ((λ m names. walks-block in_where room t (else_control t own line first None) block (inside w own 0 m s) (stage-region vs t s h w own 0 m refl names) g.0 right.in_block), tt))
         (λ _. walks-elses 0 t line first rest s h (no_else rest g.1) right.in_rest)
-
-  -- a statement of the program that stands in no construct
-  abbrev pub IsOuter : Stmt → Type 0
-  IsOuter st = IsBody anywhere 64 st.line st.body
 
   pub walks-list : (t : List Row) (w : Within) (ss : List Stmt) (s : Scope) → Stage vs t s → All IsOuter ss → stmts_faults t w ss ≡ [] → Walks vs s (statement_list ss)
   walks-list t w [] s h g f = walks-done vs s tt

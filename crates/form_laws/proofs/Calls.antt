@@ -18,12 +18,13 @@ use Rattle.hlfir_ops.specs.declared.what.Reduction.{Reduction}
 use Rattle.hlfir_ops.specs.declared.what.Reduction.TheVariants as reduction
 use Rattle.hlfir_ops.specs.declared.what.What.TheVariants as what
 use Rattle.hlfir_ops.specs.RulesValues.{Value, kind_at, same_elem, elem_of, rank_of, is_scalar, is_array, has_elem}
-use Rattle.hlfir_ops.specs.RulesForms.{reduced_elem, total_elem, is_reduced, same_scalars, are_items, is_array_of}
+use Rattle.hlfir_ops.specs.RulesForms.{reduced_elem, total_elem, is_reduced, same_scalars, are_items, is_array_of, operand_elem}
+use Rattle.hlfir_ops.specs.declared.what.ValueBinary.{ValueBinary}
 use Rattle.lower_values.specs.declared.operand.Operand.{Operand}
 use Rattle.lower_assign.specs.Known.{elem}
 use Rattle.lower_values.specs.Scopes.{Scope}
 use Rattle.lower_values.specs.Lowerings.{giving}
-use Rattle.lower_values.specs.Operations.{values_of, operation, total, call_on, vector, nesting_of}
+use Rattle.lower_values.specs.Operations.{values_of, operation, total, call_on, vector, nesting_of, binary_operation}
 use Rattle.kind_laws.specs.Found.{Holds}
 use Rattle.form_laws.proofs.Passing.{fit-op}
 use Rattle.form_laws.proofs.Operands.{scalar_kind, array_kind}
@@ -32,7 +33,8 @@ use Rattle.form_laws.proofs.Walking.{Good, good-made}
 use Rattle.kind_laws.proofs.Arguments.{argued}
 use Rattle.kind_laws.proofs.NoFaults.{none_first, none_after, not_broken, left_false, right_false}
 use Rattle.kind_laws.proofs.TypesTold.{not_other, same_elem-same}
-use Rattle.form_laws.proofs.Arguments.{Each, AreSingle, same_choice}
+use Rattle.kind_laws.proofs.ScalarRanks.{AllScalar}
+use Rattle.form_laws.proofs.Arguments.{Each, same_choice}
 
 module _ (vs : List Value) where
   -- ---- so many of them
@@ -90,25 +92,24 @@ module _ (vs : List Value) where
     abs-good ty x of f held =
         good-made vs (operation (what.Unary unary.Abs) I32 (x ∷ []) s n) (unary-made vs false s n unary.Abs I32 x refl of.stands (of.of_elem ∙ ap elem (right_type word.Abs (argued no_arguments (ty ∷ [])) f)) held).made
 
+    division-good : (op : ValueBinary) → operand_elem op ≡ I32 → (ty tz : Typed) (x y : Operand) → IsOf vs ty x → IsOf vs tz y → (ty.truth || tz.truth) ≡ false → differ ty.rank tz.rank ≡ false →
+        Holds vs n (binary_operation op x y s n).ops → Good vs (binary_operation op x y s n)
+    division-good op number ty tz x y of og types ranks held =
+        good-made vs (binary_operation op x y s n)
+        (binary-made vs false s n op x y of.stands og.stands (of.of_elem ∙ (ap elem (left_false ty.truth tz.truth types) ∙ sym number)) (og.of_elem ∙ (ap elem (right_false ty.truth tz.truth types) ∙ sym number))
+        (ap (λ k. differ k (rank_of y.kind)) of.of_rank ∙ (ap (differ ty.rank) og.of_rank ∙ ranks)) held).made
+
     mod-good : (ty tz : Typed) (x y : Operand) → IsOf vs ty x → IsOf vs tz y → IsGood word.Mod (ty ∷ tz ∷ []) (x ∷ y ∷ [])
     unfolding call_on
     mod-good ty tz x y of og f held =
         let a = argued no_arguments (ty ∷ tz ∷ []) in
-        let types = right_type word.Mod a f in
-        let ranks = right_rank word.Mod a f in
-        good-made vs (operation (what.Binary binary.Mod) I32 (x ∷ y ∷ []) s n)
-        (binary-made vs false s n binary.Mod x y of.stands og.stands (of.of_elem ∙ ap elem (left_false ty.truth tz.truth types)) (og.of_elem ∙ ap elem (right_false ty.truth tz.truth types))
-        (ap (λ k. differ k (rank_of y.kind)) of.of_rank ∙ (ap (differ ty.rank) og.of_rank ∙ no_start ty.rank tz.rank (right_false (false || differ 0 ty.rank) _ ranks))) held).made
+        division-good binary.Mod refl ty tz x y of og (right_type word.Mod a f) (no_start ty.rank tz.rank (right_false (false || differ 0 ty.rank) _ (right_rank word.Mod a f))) held
 
     modulo-good : (ty tz : Typed) (x y : Operand) → IsOf vs ty x → IsOf vs tz y → IsGood word.Modulo (ty ∷ tz ∷ []) (x ∷ y ∷ [])
     unfolding call_on
     modulo-good ty tz x y of og f held =
         let a = argued no_arguments (ty ∷ tz ∷ []) in
-        let types = right_type word.Modulo a f in
-        let ranks = right_rank word.Modulo a f in
-        good-made vs (operation (what.Binary binary.Modulo) I32 (x ∷ y ∷ []) s n)
-        (binary-made vs false s n binary.Modulo x y of.stands og.stands (of.of_elem ∙ ap elem (left_false ty.truth tz.truth types)) (og.of_elem ∙ ap elem (right_false ty.truth tz.truth types))
-        (ap (λ k. differ k (rank_of y.kind)) of.of_rank ∙ (ap (differ ty.rank) og.of_rank ∙ no_start ty.rank tz.rank (right_false (false || differ 0 ty.rank) _ ranks))) held).made
+        division-good binary.Modulo refl ty tz x y of og (right_type word.Modulo a f) (no_start ty.rank tz.rank (right_false (false || differ 0 ty.rank) _ (right_rank word.Modulo a f))) held
 
     merge-good : (ty tz tw : Typed) (x y z : Operand) → IsOf vs ty x → IsOf vs tz y → IsOf vs tw z → IsGood word.Merge (ty ∷ tz ∷ tw ∷ []) (x ∷ y ∷ z ∷ [])
     unfolding call_on
@@ -180,7 +181,7 @@ module _ (vs : List Value) where
   single_kind : (b : Bool) (ty : Typed) (x : Operand) → IsOf vs ty x → ty.truth ≡ b → ty.rank ≡ 0 → kind_at vs x.value ≡ Some (kind.Scalar (elem b))
   single_kind b ty x of truth rank = of.stands.found ∙ (ap Some (scalar_kind x.kind of.stands.solid (ap (λ r. r == 0) (of.of_rank ∙ rank))) ∙ ap (λ e. Some (kind.Scalar e)) (of.of_elem ∙ ap elem truth))
 
-  items_like : (b : Bool) (k : Option ValueKind) (tys : List Typed) (xs : List Operand) → k ≡ Some (kind.Scalar (elem b)) → AreOf vs tys xs → Each b tys → AreSingle tys → list_all (λ w. same_scalars k (kind_at vs w)) (values_of xs) ≡ true
+  items_like : (b : Bool) (k : Option ValueKind) (tys : List Typed) (xs : List Operand) → k ≡ Some (kind.Scalar (elem b)) → AreOf vs tys xs → Each b tys → AllScalar tys → list_all (λ w. same_scalars k (kind_at vs w)) (values_of xs) ≡ true
   items_like b k [] [] is of each single = refl
   items_like b k [] (x ∷ xs) is of each single = absurd of
   items_like b k (ty ∷ tys) [] is of each single = absurd of
@@ -189,7 +190,7 @@ module _ (vs : List Value) where
       (ap (λ o. same_scalars o (kind_at vs x.value)) is ∙ (ap (same_scalars (Some (kind.Scalar (elem b)))) (single_kind b ty x of.0 each.0 single.0) ∙ same_elem-same (elem b)))
       (items_like b k tys xs is of.1 each.1 single.1)
 
-  pub vector-good : (b : Bool) (ty : Typed) (tys : List Typed) (x : Operand) (xs : List Operand) (s : Scope) (n : ℕ) → AreOf vs (ty ∷ tys) (x ∷ xs) → Each b (ty ∷ tys) → AreSingle (ty ∷ tys) → Good vs (vector (x ∷ xs) s n)
+  pub vector-good : (b : Bool) (ty : Typed) (tys : List Typed) (x : Operand) (xs : List Operand) (s : Scope) (n : ℕ) → AreOf vs (ty ∷ tys) (x ∷ xs) → Each b (ty ∷ tys) → AllScalar (ty ∷ tys) → Good vs (vector (x ∷ xs) s n)
   unfolding vector giving
   vector-good b ty tys x xs s n of each single =
       let found = single_kind b ty x of.0 each.0 single.0 in

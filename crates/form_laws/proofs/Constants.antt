@@ -19,14 +19,13 @@ use Rattle.ws_types.specs.Names.{Name}
 use Rattle.ws_types.specs.Expressions.{number_limit}
 use Rattle.ws_types.specs.Constants.{known, constant_of, of_exact, is_sign, is_arithmetic, signed, joined, constancy, value_of}
 use Rattle.ws_sema.specs.Declarations.{constant_row, constants_from, with_constant, constants_after}
+use Rattle.term_eval.specs.Limits.{IsInteger}
+use Rattle.term_eval.proofs.Integers.{truth-integer}
 use Rattle.small_laws.proofs.Constancy.{IfValue}
-
-abbrev pub IsDefault : ℤ → Type 0
-IsDefault z = in_range default_half z ≡ true
 
 -- where it has a value
 abbrev pub HasDefault : Constancy → Type 0
-HasDefault c = IfValue c IsDefault
+HasDefault c = IfValue c IsInteger
 
 abbrev pub ConstantsFit : List Constant → Type 0
 ConstantsFit cs = (x : Name) → HasDefault (constant_of cs x)
@@ -34,37 +33,33 @@ ConstantsFit cs = (x : Name) → HasDefault (constant_of cs x)
 -- ---- operators
 
 module _ (v : ℤ) where
-  exact_fits : (z : ℤ) (b : Bool) → in_range default_half z ≡ b → (if b then Ok z else (let e : Exact = Err Overflow in e)) ≡ Ok v → IsDefault v
-  exact_fits z true h is = let same : z ≡ v = cc in subst IsDefault same h
+  exact_fits : (z : ℤ) (b : Bool) → in_range default_half z ≡ b → (if b then Ok z else (let e : Exact = Err Overflow in e)) ≡ Ok v → IsInteger v
+  exact_fits z true h is = let same : z ≡ v = cc in subst IsInteger same h
   exact_fits z false h is = cc
 
-  exact_is : (z : ℤ) → exact default_half z ≡ Ok v → IsDefault v
+  exact_is : (z : ℤ) → exact default_half z ≡ Ok v → IsInteger v
   exact_is z is = exact_fits z (in_range default_half z) refl is
 
-  unless_fits : (b : Bool) (z : ℤ) → (if b then (let e : Exact = Err DivideByZero in e) else exact default_half z) ≡ Ok v → IsDefault v
+  unless_fits : (b : Bool) (z : ℤ) → (if b then (let e : Exact = Err DivideByZero in e) else exact default_half z) ≡ Ok v → IsInteger v
   unless_fits true z is = cc
   unless_fits false z is = exact_is z is
 
-truth_fits : (b : Bool) → IsDefault (truth b)
-truth_fits true = refl
-truth_fits false = refl
+same_fits : (z v : ℤ) → IsInteger z → (let r : Exact = Ok z in r) ≡ Ok v → IsInteger v
+same_fits z v h is = let same : z ≡ v = cc in subst IsInteger same h
 
-same_fits : (z v : ℤ) → IsDefault z → (let r : Exact = Ok z in r) ≡ Ok v → IsDefault v
-same_fits z v h is = let same : z ≡ v = cc in subst IsDefault same h
-
-unary_fits : (op : UnOp) (z v : ℤ) → IsDefault z → unary_value default_half op z ≡ Ok v → IsDefault v
+unary_fits : (op : UnOp) (z v : ℤ) → IsInteger z → unary_value default_half op z ≡ Ok v → IsInteger v
 unary_fits un.Minus z v h is = exact_is v (neg_ℤ z) is
 unary_fits un.Plus z v h is = same_fits z v h is
-unary_fits un.Not z v h is = same_fits (truth (not (is_true z))) v (truth_fits (not (is_true z))) is
+unary_fits un.Not z v h is = same_fits (truth (not (is_true z))) v (truth-integer (not (is_true z))) is
 
-binary_fits : (op : BinOp) (y z v : ℤ) → is_arithmetic op ≡ true → binary_value default_half op y z ≡ Ok v → IsDefault v
+binary_fits : (op : BinOp) (y z v : ℤ) → is_arithmetic op ≡ true → binary_value default_half op y z ≡ Ok v → IsInteger v
 binary_fits bin.Add y z v h is = exact_is v (y +ℤ z) is
 binary_fits bin.Sub y z v h is = exact_is v (y -ℤ z) is
 binary_fits bin.Mul y z v h is = exact_is v (y *ℤ z) is
 binary_fits bin.Div y z v h is = unless_fits v (int_eq z (pos 0)) (int_div y z) is
 binary_fits _ y z v h is = cc
 
-exact_value : (r : Exact) → ((v : ℤ) → r ≡ Ok v → IsDefault v) → HasDefault (of_exact r)
+exact_value : (r : Exact) → ((v : ℤ) → r ≡ Ok v → IsInteger v) → HasDefault (of_exact r)
 exact_value (Ok v) k = k v refl
 exact_value (Err f) k = tt
 

@@ -14,11 +14,10 @@ use Rattle.hlfir_ops.specs.RulesValues.{Value}
 use Rattle.hlfir_ops.specs.RulesForms.{is_variable}
 use Rattle.lower_values.specs.declared.names.Variable.{Variable}
 use Rattle.lower_values.specs.Scopes.{Scope}
-use Rattle.lower_values.specs.Lowerings.{done, ◌>>=◌, in_turn, giving}
+use Rattle.lower_values.specs.Lowerings.{done, in_turn, giving}
 use Rattle.lower_assign.specs.Known.{elem, bound_dim, declared_shape, variable_kind, declares_variable, if_variable, variable_decls, numbered}
 use Rattle.lower_constructs.specs.Modules.{declaration}
 use Rattle.form_laws.proofs.Passing.{fit-op}
-use Rattle.kind_laws.proofs.DeclaresFound.{GivesDeclares}
 use Rattle.kind_laws.proofs.NoFaults.{none_first, none_after, not_broken}
 use Rattle.form_laws.proofs.Regions.{Walks, walks-then, walks-done, walks-in_turn}
 
@@ -78,9 +77,3 @@ module _ (vs : List Value) where
 
   pub walks-declarations : (s : Scope) (k : ℕ) (variables : List Variable) → AllByRecursion IsVariable variables → Walks vs s (in_turn declaration k variables)
   walks-declarations s k variables h = walks-in_turn vs s IsVariable declaration k variables (λ j v is. walks-declaration s j v is) h
-
--- ---- what they are
-
-pub gives_declares : GivesDeclares declaration
-unfolding declaration giving ◌>>=◌ done
-gives_declares k v s n = refl

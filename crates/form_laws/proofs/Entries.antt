@@ -26,22 +26,14 @@ pub record NamesArray (names : Names) (x : Name) (ty : Typed) : Type 0 where
   pub of_elem : elem_of declare.kind ≡ elem ty.truth
   pub of_rank : rank_of declare.kind ≡ ty.rank
 
+array_of : (names : Names) (x : Name) (e : Entry) (d : Operand) (k : ValueKind) → d.kind ≡ k → variable_of names.variables x ≡ Some d → is_reference (Some k) ≡ true → elem_of k ≡ elem e.truth → rank_of k ≡ e.rank → NamesArray names x (entry_type e)
+array_of names x e d k same is reference of_elem of_rank =
+    record { declare = d; is = is; reference = ap (λ k. is_reference (Some k)) same ∙ reference; of_elem = ap elem_of same ∙ of_elem; of_rank = ap rank_of same ∙ of_rank }
+
 array_fits : (names : Names) (x : Name) (e : Entry) (d : Operand) (k : ValueKind) → d.kind ≡ k → variable_of names.variables x ≡ Some d → FitsEntry e k → (e.rank == 0) ≡ false → NamesArray names x (entry_type e)
 array_fits names x e d (kind.Place f) same is h some = absurd (true≢false (ap (λ r. r == 0) (sym h.1) ∙ some))
-array_fits names x e d (kind.Declared f shape) same is h some = record {
-  declare = d;
-  is = is;
-  reference = ap (λ k. is_reference (Some k)) same;
-  of_elem = ap elem_of same ∙ h.0;
-  of_rank = ap rank_of same ∙ h.1;
-}
-array_fits names x e d (kind.Allocatable f rank) same is h some = record {
-  declare = d;
-  is = is;
-  reference = ap (λ k. is_reference (Some k)) same;
-  of_elem = ap elem_of same ∙ h.0;
-  of_rank = ap rank_of same ∙ h.1;
-}
+array_fits names x e d (kind.Declared f shape) same is h some = array_of names x e d (kind.Declared f shape) same is refl h.0 h.1
+array_fits names x e d (kind.Allocatable f rank) same is h some = array_of names x e d (kind.Allocatable f rank) same is refl h.0 h.1
 array_fits names x e d _ same is h some = absurd h
 
 array_known : (b : Bool) (names : Names) (x : Name) (e : Entry) → EntryIsKnown b names x e → (e.rank == 0) ≡ false → NamesArray names x (entry_type e)

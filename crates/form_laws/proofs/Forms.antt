@@ -26,7 +26,7 @@ use Rattle.form_laws.proofs.Constants.{declared-fit}
 use Rattle.form_laws.proofs.Stages.{Stage}
 use Rattle.form_laws.proofs.Regions.{Walks, walks-then}
 use Rattle.form_laws.proofs.Blocks.{walks-list}
-use Rattle.form_laws.proofs.Declares.{variables-are, walks-declarations, gives_declares}
+use Rattle.form_laws.proofs.Declares.{variables-are, walks-declarations}
 
 -- ---- two tests at once
 
@@ -55,7 +55,7 @@ module _ (t : Tree) (h : IsAccepted t) where
   stage : Stage vs (table_of t.decls) s
   stage = record {
     knows = names_are_known t h;
-    scope = outermost_found declaration gives_declares vs t (held-first vs (in_turn declaration 0 (names_of t).variables) (λ _. statement_list t.body) s 0 all_held);
+    scope = outermost_found vs t (held-first vs (in_turn declaration 0 (names_of t).variables) (λ _. statement_list t.body) s 0 all_held);
     constants = declared-fit t.decls;
     fit = tables.declared_fit [] [] t.decls (no_decl_faults t h);
   }

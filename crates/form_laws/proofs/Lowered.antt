@@ -39,7 +39,9 @@ use Rattle.form_laws.proofs.Typed.{operand_elem-is, IsOf, AreOf, unary-made, bin
 use Rattle.form_laws.proofs.Walking.{Good, good-made, Leaves, then-leaves, done-leaves}
 use Rattle.kind_laws.proofs.Arguments.{argued}
 use Rattle.kind_laws.proofs.Held.{held-first, held-rest}
-use Rattle.form_laws.proofs.Arguments.{no_ranks, one_type}
+use Rattle.kind_laws.proofs.FormsMade.{some_subs}
+use Rattle.kind_laws.proofs.ScalarRanks.{arguments_scalar}
+use Rattle.form_laws.proofs.Arguments.{one_type}
 use Rattle.form_laws.proofs.Entries.{NamesArray, names-array}
 use Rattle.form_laws.proofs.References.{Boxed, reference-boxed, constant-good, bound-good}
 use Rattle.form_laws.proofs.Parts.{IsInteger, SubFits, AllSubs, Part, designated-part, then-part}
@@ -89,7 +91,7 @@ module _ (vs : List Value) (t : List Row) (s : Scope) (stage : Stage vs t s) (in
   by_types : (tys : List Typed) (ys : List Operand) (n : ℕ) → AreOf vs tys ys → 0 < length tys → (argued no_arguments tys).rank ≡ 0 → ((argued no_arguments tys).truths && (argued no_arguments tys).numbers) ≡ false → Good vs (vector ys s n)
   by_types [] ys n of l ranks says = absurd (omega (arith, l))
   by_types (ty ∷ tys) [] n of l ranks says = absurd of
-  by_types (ty ∷ tys) (y ∷ ys) n of l ranks says = let one = one_type (ty ∷ tys) says in vector-good vs one.0 ty tys y ys s n of one.1 (no_ranks no_arguments (ty ∷ tys) ranks).1
+  by_types (ty ∷ tys) (y ∷ ys) n of l ranks says = let one = one_type (ty ∷ tys) says in vector-good vs one.0 ty tys y ys s n of one.1 (arguments_scalar no_arguments (ty ∷ tys) ranks).1
 
   pub vector-lowered : {m : Count} (es : Exprs m) (xs : List Operand) (n : ℕ) → HasExprs es → AreLowered es xs → vector_faults line inside (length (listed es)) (arguments t inside no_arguments es) ≡ [] → Good vs (vector xs s n)
   vector-lowered es xs n some h f =
@@ -183,7 +185,3 @@ module _ (vs : List Value) (t : List Row) (s : Scope) (stage : Stage vs t s) (in
       let cs = (subscripts r 1 subs s k).made in
       let third = designated-part vs r first.found reference_is cs (second.holds.1 ∙ rank_is) second.holds.0 s (k + numbers_of (subscripts r 1 subs s k).ops) (held-rest vs (subscripts r 1 subs) (designated r) s k rest) in
       then-part vs (reference x) q s n first.fit (then-part vs (subscripts r 1 subs) (designated r) s k second.fit third)
-    where
-      some_subs : {k : Count} (ss : Subs k) → HasSubs ss → 1 ≤ how_many ss
-      some_subs end_subs h = absurd h
-      some_subs (more_subs c ss) h = omega arith

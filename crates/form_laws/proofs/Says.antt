@@ -51,7 +51,3 @@ vector_says line inside count a f =
 pub nested_says : (line : ℕ) (inside : Bool) (w : CallWord) (op : ValueBinary) (a : Arguments) → Nests w op → call_faults line inside w a ≡ [] → (a.truths ≡ false) × (a.mixed ≡ false)
 unfolding call_faults
 nested_says line inside w op a h f = (sym (h.type a) ∙ not_broken _ _ _ (none_after _ _ (none_first _ _ f)), sym (h.rank a) ∙ not_broken _ _ _ (none_after _ _ f))
-
-pub no_wide : {P : Type 0} (line : ℕ) → wide_faults line ≡ [] → P
-unfolding wide_faults
-no_wide line f = impossible line refusal.OverLimit f

@@ -20,8 +20,8 @@ use Rattle.lower_assign.specs.Statements.{whole_left, left_of, left}
 use Rattle.form_laws.proofs.Passing.{AreFit, fit-none}
 use Rattle.kind_laws.proofs.Sides.{sides_are_expressions}
 use Rattle.kind_laws.proofs.NoFaults.{none_first, none_after}
+use Rattle.kind_laws.proofs.TypesTold.{no_wide}
 use Rattle.form_laws.proofs.References.{boxed-boxed, constant-good, variable-found}
-use Rattle.form_laws.proofs.Says.{no_wide}
 use Rattle.form_laws.proofs.Lowered as lowered
 use Rattle.form_laws.proofs.Values.{value-good, subs-leave}
 use Rattle.form_laws.proofs.Stages.{Stage}

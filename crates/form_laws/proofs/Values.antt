@@ -30,7 +30,7 @@ use Rattle.kind_laws.specs.Found.{Holds}
 use Rattle.kind_laws.proofs.TypedExpressions.{types_are_known}
 use Rattle.kind_laws.proofs.Held.{held-first, held-rest}
 use Rattle.kind_laws.proofs.NoFaults.{none_first, none_after, allowed, right_false}
-use Rattle.kind_laws.proofs.TypesTold.{scalar_says}
+use Rattle.kind_laws.proofs.TypesTold.{scalar_says, no_wide}
 use Rattle.form_laws.proofs.Operands.{IsFound}
 use Rattle.form_laws.proofs.Typed.{IsOf}
 use Rattle.form_laws.proofs.Walking.{Good, then-good, Leaves, then-leaves, done-leaves}
@@ -41,13 +41,10 @@ use Rattle.form_laws.proofs.Inquiries.{inquiry-good}
 use Rattle.form_laws.proofs.Wholes.{parentheses-good}
 use Rattle.form_laws.proofs.Folded.{is_right, chosen, not_chosen, folded-good, call_by-good, IsSoFar, so_far-good, joined-leaves}
 use Rattle.form_laws.proofs.Stages.{Stage}
-use Rattle.form_laws.proofs.Says.{small_number, subscript_says, unary_says, nested_says, no_wide}
+use Rattle.form_laws.proofs.Says.{small_number, subscript_says, unary_says, nested_says}
 use Rattle.form_laws.proofs.Lowered as lowered
 
 module _ (vs : List Value) (t : List Row) (s : Scope) (stage : Stage vs t s) (inside : Bool) (line : ℕ) where
-  value-is : (e : Expr) (n : ℕ) (ty : Typed) → IsExpr e → Good vs (value e s n) → faults t inside line e ≡ [] → typed t inside e ≡ Some ty → Holds vs n (value e s n).ops → IsOf vs ty (value e s n).made
-  value-is = lowered.value-is vs t s stage inside line
-
   abbrev IsIndex : Operand → Type 0
   IsIndex x = lowered.IsIndex vs t s stage inside line x
 
@@ -93,7 +90,7 @@ module _ (vs : List Value) (t : List Row) (s : Scope) (stage : Stage vs t s) (in
         let here = held-first vs (value e) in_parentheses s n under in
         let good = value-good e n h f here in
         let ty = types_are_known t inside line e f in
-        then-good vs (value e) in_parentheses s n good.fit (parentheses-good vs s (n + numbers_of (value e s n).ops) (value e s n).made (value-is e n ty.0 h good f ty.1 here).stands)) held
+        then-good vs (value e) in_parentheses s n good.fit (parentheses-good vs s (n + numbers_of (value e s n).ops) (value e s n).made (lowered.value-is vs t s stage inside line e n ty.0 h good f ty.1 here).stands)) held
     value-good (unary op e) n h f held = folded-good vs s n (unary op e) (value e >>= unary_operation op) stage.constants (λ under.
         let here = held-first vs (value e) (unary_operation op) s n under in
         let g = none_first _ _ f in
@@ -102,7 +99,7 @@ module _ (vs : List Value) (t : List Row) (s : Scope) (stage : Stage vs t s) (in
         let x = (value e s n).made in
         let m = n + numbers_of (value e s n).ops in
         then-good vs (value e) (unary_operation op) s n good.fit
-        (lowered.unary-lowered vs t s stage inside line op ty.0 x m (value-is e n ty.0 h good g ty.1 here)
+        (lowered.unary-lowered vs t s stage inside line op ty.0 x m (lowered.value-is vs t s stage inside line e n ty.0 h good g ty.1 here)
         (unary_says line op ty.0 (ap (unary_faults line op) (sym ty.1) ∙ none_after _ _ f)) (held-rest vs (value e) (unary_operation op) s n under))) held
     value-good (binary op a b) n h f held = folded-good vs s n (binary op a b) (value a >>= (λ x. value b >>= binary_operation (binary_of op) x)) stage.constants (λ under.
         let q : Operand → Lowering Operand = λ x. value b >>= binary_operation (binary_of op) x in
@@ -119,7 +116,7 @@ module _ (vs : List Value) (t : List Row) (s : Scope) (stage : Stage vs t s) (in
         let tz = types_are_known t inside line b fb in
         then-good vs (value a) q s n ga.fit (then-good vs (value b) (binary_operation (binary_of op) x) s m gb.fit
         (lowered.binary-lowered vs t s stage inside line op ty.0 tz.0 x (value b s m).made (m + numbers_of (value b s m).ops)
-        (value-is a n ty.0 h.0 ga fa ty.1 here) (value-is b m tz.0 h.1 gb fb tz.1 next)
+        (lowered.value-is vs t s stage inside line a n ty.0 h.0 ga fa ty.1 here) (lowered.value-is vs t s stage inside line b m tz.0 h.1 gb fb tz.1 next)
         (ap (λ o. binary_faults line op o (Some tz.0)) (sym ty.1) ∙ (ap (binary_faults line op (typed t inside a)) (sym tz.1) ∙ none_after _ _ f))
         (held-rest vs (value b) (binary_operation (binary_of op) x) s m after)))) held
 
@@ -138,7 +135,7 @@ module _ (vs : List Value) (t : List Row) (s : Scope) (stage : Stage vs t s) (in
         let xs = (values es s m).made in
         then-leaves vs (AreLowered (more_exprs e es)) (value e) q s n good.fit (then-leaves vs (AreLowered (more_exprs e es)) (values es) last s m more.fit
         (done-leaves vs (AreLowered (more_exprs e es)) (x ∷ xs) s (m + numbers_of (values es s m).ops)
-        (lowered.lowered-more vs t s stage inside line e es ty.0 x xs ty.1 (value-is e n ty.0 h.0 good g ty.1 here) more.holds)))
+        (lowered.lowered-more vs t s stage inside line e es ty.0 x xs ty.1 (lowered.value-is vs t s stage inside line e n ty.0 h.0 good g ty.1 here) more.holds)))
 
     nested-good : {m : Count} (op : ValueBinary) → operand_elem op ≡ I32 → result_elem op ≡ I32 → (a : Arguments) (before : Option Operand) (es : Exprs m) (n : ℕ) → IsSoFar vs s n before a.rank → AreExprs es → all_faults t inside line es ≡ [] →
         (arguments t inside a es).truths ≡ false → (arguments t inside a es).mixed ≡ false → Holds vs n (nested op before es s n).ops → Good vs (nested op before es s n)
@@ -158,7 +155,7 @@ module _ (vs : List Value) (t : List Row) (s : Scope) (stage : Stage vs t s) (in
         let mixed_b : (arguments t inside b es).mixed ≡ false = ap (λ o. (arguments t inside (with_argument a o) es).mixed) (sym ty.1) ∙ mixed in
         let number = right_false a.truths ty.0.truth (lowered.kept_truths vs t s stage inside line es b truths_b) in
         let ranks = right_false a.mixed (differ a.rank ty.0.rank) (lowered.kept_mixed vs t s stage inside line es b mixed_b) in
-        let one = joined-leaves vs s m op before a.rank ty.0 y takes_is gives_is so_far (value-is e n ty.0 h.0 good g ty.1 here) number ranks (held-first vs (joined op before y) last s m after) in
+        let one = joined-leaves vs s m op before a.rank ty.0 y takes_is gives_is so_far (lowered.value-is vs t s stage inside line e n ty.0 h.0 good g ty.1 here) number ranks (held-first vs (joined op before y) last s m after) in
         let z = (joined op before y s m).made in
         then-good vs (value e) q s n good.fit (then-good vs (joined op before y) last s m one.fit
         (nested-good op takes_is gives_is b (Some z) es (m + numbers_of (joined op before y s m).ops) one.holds h.1 (none_after _ _ f) truths_b mixed_b (held-rest vs (joined op before y) last s m after)))
@@ -177,7 +174,7 @@ module _ (vs : List Value) (t : List Row) (s : Scope) (stage : Stage vs t s) (in
         let says = subscript_says line ty.0 (ap (subscript_faults line) (sym ty.1) ∙ none_after _ _ (none_first _ _ f)) in
         let x = (value e s n).made in
         then-leaves vs (SubFits vs) (value e) q s n good.fit
-        (done-leaves vs (SubFits vs) (subscript_of x) s (n + numbers_of (value e s n).ops) (subscript-fits vs ty.0 x (value-is e n ty.0 h.0 good g ty.1 here) says.0 says.1)))
+        (done-leaves vs (SubFits vs) (subscript_of x) s (n + numbers_of (value e s n).ops) (subscript-fits vs ty.0 x (lowered.value-is vs t s stage inside line e n ty.0 h.0 good g ty.1 here) says.0 says.1)))
         (λ k under. subs-leave r at reference subs (suc dim) k (omega arith) (omega (arith, high)) h.1 (none_after _ _ f) under) held
     subs-leave r at reference (more_subs (sub.Range' l u st) subs) dim n low high h f held =
         let parts : (given_faults t inside line l ++ given_faults t inside line u ++ given_faults t inside line st) ≡ [] = none_first _ _ f in
@@ -196,4 +193,4 @@ module _ (vs : List Value) (t : List Row) (s : Scope) (stage : Stage vs t s) (in
         let good = value-good e n h g held in
         let ty = types_are_known t inside line e g in
         let says = scalar_says line ty.0 (ap (scalar_faults line) (sym ty.1) ∙ none_after _ _ f) in
-        record { fit = good.fit; holds = integer-of vs ty.0 (value e s n).made (value-is e n ty.0 h good g ty.1 held) says.0 says.1 }
+        record { fit = good.fit; holds = integer-of vs ty.0 (value e s n).made (lowered.value-is vs t s stage inside line e n ty.0 h good g ty.1 held) says.0 says.1 }

@@ -2,7 +2,7 @@
 use Rattle.std.proofs.Common.{◌≡◌, refl, sym, ap, ◌∙◌, ℕ, Bool, true, false, not, ◌||◌, ◌&&◌, List, [], ◌∷◌, nat_lt, Some, max, true≢false}
 use Rattle.ws_types.specs.declared.types.Typed.{Typed}
 use Rattle.ws_types.specs.declared.types.Arguments.{Arguments}
-use Rattle.ws_types.specs.Operations.{no_arguments, with_argument, vector_type, item_limit}
+use Rattle.ws_types.specs.Operations.{no_arguments, with_argument, vector_type, item_limit, differ}
 use Rattle.hlfir_ops.specs.declared.kinds.ValueKind.TheVariants.{Array}
 use Rattle.hlfir_ops.specs.RulesValues.{rank_of}
 use Rattle.lower_values.specs.declared.operand.Operand.{Operand}
@@ -11,6 +11,7 @@ use Rattle.lower_values.specs.Scopes.{Scope}
 use Rattle.lower_values.specs.Operations.{rank_from, first_elem, vector}
 use Rattle.kind_laws.proofs.TypeFacts.{same_type, chosen_type, not_chosen}
 use Rattle.kind_laws.proofs.Made.{Makes, IsOf, makes-giving, array_type}
+use Rattle.kind_laws.proofs.NoFaults.{left_false}
 
 -- operands of these types
 abbrev pub AreOf : List Typed → List Operand → Type 0
@@ -46,6 +47,10 @@ argued-numbers c (a ∷ tys) h = argued-numbers (with_argument c (Some a)) tys (
   still : (x y : Bool) → x ≡ true → (x || y) ≡ true
   still true y h = refl
   still false y h = absurd (true≢false (sym h))
+
+pub not_mixed : (c : Arguments) (tys : List Typed) → (argued c tys).mixed ≡ false → c.mixed ≡ false
+not_mixed c [] h = h
+not_mixed c (a ∷ tys) h = left_false c.mixed (differ c.rank a.rank) (not_mixed (with_argument c (Some a)) tys h)
 
 -- arguments of type INTEGER alone
 abbrev pub AreNumbers : List Typed → Type 0

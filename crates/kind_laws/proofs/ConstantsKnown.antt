@@ -99,7 +99,7 @@ not_later before cs (d ∷ ds) x f h =
 
 -- ---- the value of a constant
 
-value_at : (line : ℕ) (c : Constancy) → constant_faults line c ≡ [] → (z : ℤ) × (c ≡ Value z)
+pub value_at : (line : ℕ) (c : Constancy) → constant_faults line c ≡ [] → (z : ℤ) × (c ≡ Value z)
 unfolding constant_faults
 value_at line (Value z) f = (z, refl)
 value_at line NoValue f = impossible line kind.OverLimit (none_after _ _ f)

@@ -11,6 +11,9 @@ use Rattle.ws_tree.specs.declared.stmt.Part.{Part}
 use Rattle.ws_tree.specs.declared.stmt.Body.TheVariants.{Masked', Forall', Loop', Allocate, Deallocate, Read, Shared'}
 use Rattle.ws_tree.specs.declared.stmt.Else.{Else'}
 use Rattle.ws_tree.specs.Trees.{Stmts, Elses, more_elses}
+use Rattle.ws_tree.specs.declared.stmt.Stmt.{Stmt}
+use Rattle.ws_tree.specs.Grammatical.{IsBody}
+use Rattle.ws_tree.specs.Grammatical.Within.{anywhere}
 use Rattle.ws_types.specs.declared.types.Row.{Row}
 use Rattle.ws_types.specs.Kinds.{when}
 use Rattle.ws_types.specs.Names.{Name, standing_of}
@@ -96,3 +99,8 @@ read_faultless t w line es f = none_after _ _ (looked_into (is_masked w) line ki
 pub each_faultless : {A : Type 0} (P : A → Type 0) (rules : A → List Refusal) (xs : List A) → All P xs → flat_map rules xs ≡ [] → AllByRecursion (λ x. P x × (rules x ≡ [])) xs
 each_faultless P rules [] h f = tt
 each_faultless P rules (x ∷ xs) h f = ((All-head P x xs h, none_first _ _ f), each_faultless P rules xs (All-tail P x xs h) (none_after _ _ f))
+
+-- ---- a statement of the program that stands in no construct
+
+abbrev pub IsOuter : Stmt → Type 0
+IsOuter s = IsBody anywhere 64 s.line s.body

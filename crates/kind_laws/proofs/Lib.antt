@@ -14,13 +14,16 @@ pub mod CallsMade
 pub mod ConstantsMade
 pub mod FormsMade
 pub mod ExpressionsMade
+pub mod ScalarRanks
 pub mod ConstantsKnown
+pub mod Extended
 pub mod NamesKnown
 pub mod Finding
 pub mod FormsFound
 pub mod ExpressionsFound
 pub mod ScopesKnown
 pub mod ScopesFound
+pub mod ScopesMoved
 pub mod Sides
 pub mod Held
 pub mod DeclaresFound

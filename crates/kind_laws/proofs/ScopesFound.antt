@@ -35,6 +35,7 @@ use Rattle.kind_laws.proofs.Sited.{op_values-parts, values_of-length}
 use Rattle.kind_laws.proofs.Finding.{value_here}
 use Rattle.kind_laws.proofs.FormsFound.{declare_found}
 use Rattle.kind_laws.proofs.ScopesKnown.{entry_variable}
+use Rattle.kind_laws.proofs.TypesTold.{no_rank}
 
 -- ---- index names
 
@@ -181,10 +182,7 @@ loop_variable s vs w line x (Some (Declared d)) all h f =
     let scalar = none_after _ _ variable in
     loop_declare vs d (declare_of s.names x) (variable_declare s vs x all (Some (Declared d)) d h (refl, constant))
     (truth_false d.truth (not_broken (is_other_type false (name_type (Some (Declared d)))) _ _ (none_first _ _ scalar)))
-    (let above = not_broken (is_above 0 (name_type (Some (Declared d)))) _ _ (none_after _ _ scalar) in no_rank d.rank above)
-  where
-    no_rank : (n : ℕ) → is_above 0 (Some (record { truth = false; rank = n })) ≡ false → n ≡ 0
-    no_rank n h = grind (arith, h)
+    (let above = not_broken (is_above 0 (name_type (Some (Declared d)))) _ _ (none_after _ _ scalar) in no_rank (entry_type d) above)
 loop_variable s vs w line x (Some (Active d)) all h f = impossible line kind.DoVariable (none_after _ _ f)
 loop_variable s vs w line x (Some Index) all h f = impossible line kind.DoVariable (none_after _ _ f)
 loop_variable s vs w line x (Some Barred) all h f = impossible line kind.DoVariable (none_after _ _ (none_first _ _ (none_first _ _ (none_first _ _ f))))

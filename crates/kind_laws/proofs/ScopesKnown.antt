@@ -44,14 +44,14 @@ standing_listed : (st : Standing) (is : List Index) (t : List Row) (x : Name) �
 standing_listed st [] t x = refl
 standing_listed st (i ∷ is) t x = standing_at (bytes_eq i.name x) (is_listed is x) st (standing_of (with_indexes st is t) x) (standing_of t x) (standing_listed st is t x)
 
-abbrev with_names : ℕ → List Index → List Indexed → List Indexed
+abbrev pub with_names : ℕ → List Index → List Indexed → List Indexed
 with_names n is outer = scopes.with_indexes n (index_names is) outer
 
 other_at : (b c : Bool) (v : ValueId) (o p : Option ValueId) → (b || c) ≡ false → (c ≡ false → o ≡ (if b then Some v else p)) → o ≡ p
 other_at true c v o p h g = absurd (true≢false h)
 other_at false c v o p h g = g h
 
-index_other : (n : ℕ) (is : List Index) (outer : List Indexed) (x : Name) → is_listed is x ≡ false → index_of (with_names n is outer) x ≡ index_of outer x
+pub index_other : (n : ℕ) (is : List Index) (outer : List Indexed) (x : Name) → is_listed is x ≡ false → index_of (with_names n is outer) x ≡ index_of outer x
 index_other n [] outer x h = refl
 index_other n (i ∷ is) outer x h =
     other_at (bytes_eq i.name x) (is_listed is x) (record { number = n }) (index_of (with_names n (i ∷ is) outer) x) (index_of outer x) h

@@ -85,7 +85,7 @@ unfolding subscript_faults
 subscript_sound line s None h k f = unknown k
 subscript_sound line s (Some a) h k f = all_true s.sound a.truth (nat_lt 1 a.rank) h (not_broken _ _ _ (none_first _ _ f)) (not_broken _ _ _ (none_after _ _ f))
 
-both_true : (y z : Bool) → not (not y) ≡ false → z ≡ true → (not y && z) ≡ true
+pub both_true : (y z : Bool) → not (not y) ≡ false → z ≡ true → (not y && z) ≡ true
 both_true true z h k = absurd (true≢false h)
 both_true false z h k = k
 

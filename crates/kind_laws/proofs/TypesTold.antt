@@ -1,11 +1,13 @@
 -- What it says of a type that no rule on it is broken.
 use Rattle.std.proofs.Common.{◌≡◌, refl, ℕ, Bool, true, false, nat_lt, [], Some, arith, true≢false, sym}
+use Rattle.ws_base.specs.declared.refusal.RefusalKind.TheVariants as kind
 use Rattle.ws_types.specs.declared.types.Typed.{Typed}
 use Rattle.ws_types.specs.Operations.{same_truth, is_other_type, is_above, scalar_faults}
+use Rattle.ws_types.specs.Expressions.{wide_faults}
 use Rattle.hlfir_ops.specs.declared.kinds.Elem.{Elem}
 use Rattle.hlfir_ops.specs.declared.kinds.Elem.TheVariants.{I32, I1}
 use Rattle.hlfir_ops.specs.RulesValues.{same_elem}
-use Rattle.kind_laws.proofs.NoFaults.{not_false, none_first, none_after, not_broken}
+use Rattle.kind_laws.proofs.NoFaults.{not_false, none_first, none_after, not_broken, impossible}
 
 same_truths : (b c : Bool) → same_truth b c ≡ true → c ≡ b
 same_truths true c h = h
@@ -29,3 +31,8 @@ scalar_says line ty f = (not_other false ty (not_broken _ _ _ (none_first _ _ f)
 pub same_elem-same : (e : Elem) → same_elem e e ≡ true
 same_elem-same I32 = refl
 same_elem-same I1 = refl
+
+-- a number that is too wide is refused
+pub no_wide : {P : Type 0} (line : ℕ) → wide_faults line ≡ [] → P
+unfolding wide_faults
+no_wide line f = impossible line kind.OverLimit f

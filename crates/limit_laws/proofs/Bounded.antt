@@ -6,8 +6,7 @@ use Rattle.std.proofs.lemmas.List.{length-map}
 use mathlib.Core.Former.{Count}
 use Rattle.ws_base.specs.declared.name.Name.{Name}
 use Rattle.ws_base.specs.declared.refusal.RefusalKind.TheVariants as refusal
-use Rattle.ws_tree.specs.Trees.{Exprs, end_exprs, more_exprs, Subs, end_subs, more_subs}
-use Rattle.ws_tree.specs.Grammatical.{HasSubs}
+use Rattle.ws_tree.specs.Trees.{Exprs, end_exprs, more_exprs}
 use Rattle.ws_types.specs.declared.constant.Constancy.{Constancy}
 use Rattle.ws_types.specs.declared.constant.Constancy.TheVariants.{Value as Value', NoValue, NotConstant}
 use Rattle.ws_types.specs.declared.types.Arguments.{Arguments}
@@ -16,7 +15,7 @@ use Rattle.ws_types.specs.declared.types.Standing.TheVariants.{Declared, Active,
 use Rattle.ws_types.specs.Names.{name_type, name_faults}
 use Rattle.ws_types.specs.Operations.{part_faults, vector_faults}
 use Rattle.ws_types.specs.Operations as types
-use Rattle.ws_types.specs.Expressions.{listed, how_many}
+use Rattle.ws_types.specs.Expressions.{listed}
 use Rattle.ws_counts.specs.declared.tally.Piece.{Piece}
 use Rattle.ws_counts.specs.Counts.{parts_in, reductions_in, wholes_in}
 use Rattle.hlfir_ops.specs.declared.kinds.Elem.TheVariants.{I32}
@@ -37,8 +36,8 @@ use Rattle.lower_values.specs.Values.{constant_or, value, values}
 use Rattle.small_laws.proofs.NoFaults.{none_first, none_after, not_broken, impossible}
 use Rattle.kind_laws.specs.Standing.{EntryIsKnown, NameIsKnown}
 use Rattle.kind_laws.specs.Found.{Holds}
+use Rattle.kind_laws.proofs.Finding.{own_value}
 use Rattle.limit_laws.proofs.Costs.{total, heavy, size, reduces, wholes, wholes_among, one_if, Costs, IsProper, Priced}
-use Rattle.limit_laws.proofs.Held.{value-there}
 use Rattle.limit_laws.proofs.Operations.{priced-weaker, priced-constant}
 use Rattle.limit_laws.proofs.References.{IsVariable, fits-variable, whole_by_kind, priced-bound}
 
@@ -51,6 +50,13 @@ Valued vs r ps = Priced vs r (8 + 27 * parts_in ps) (reductions_in ps) (wholes_i
 pub record Listed (vs : List Value) (r : Lowered (List Operand)) (ps : List Piece) : Type 0 where
   pub light : total heavy r.ops ≤ 0
   pub size : total size r.ops + 4 * length r.made ≤ 27 * parts_in ps
+  pub reductions : total reduces r.ops ≤ reductions_in ps
+  pub wholes : total (wholes vs) r.ops ≤ wholes_in ps
+
+-- values to be yielded, which cost so much besides their pieces
+pub record Headed (vs : List Value) (r : Lowered (List ValueId)) (z : ℕ) (ps : List Piece) : Type 0 where
+  pub light : total heavy r.ops ≤ 0
+  pub size : total size r.ops + length r.made ≤ z + 27 * parts_in ps
   pub reductions : total reduces r.ops ≤ reductions_in ps
   pub wholes : total (wholes vs) r.ops ≤ wholes_in ps
 
@@ -105,10 +111,6 @@ part_variable line s x (Some (Active e)) k h f g above = entry_array false s x e
 part_variable line s x (Some Index) k h f g above = let same = same_number 0 k line above (not_broken _ _ _ g) in absurd (omega arith)
 part_variable line s x (Some Barred) k h f g above = impossible line refusal.DoVariable (none_after _ _ f)
 
-pub some_subs : {m : Count} (ss : Subs m) → HasSubs ss → 0 < how_many ss
-some_subs end_subs h = absurd h
-some_subs (more_subs x xs) h = omega arith
-
 pub few_at : (line : ℕ) (inside : Bool) (n : ℕ) (a : Arguments) → vector_faults line inside n a ≡ [] → n ≤ 256
 unfolding vector_faults
 few_at line inside n a e = ltb-false types.item_limit n (not_broken _ _ _ (none_after _ _ e))
@@ -141,12 +143,12 @@ module _ (vs : List Value) where
   unfolding bound giving
   bound-apart w dim r s n h = record {
     priced = priced-weaker vs (bound w dim r s n) 2 0 0 8 0 0 (priced-bound vs w dim r s n) (omega arith) (omega arith) (omega arith);
-    whole = whole_by_kind _ _ (value-there vs n (what.Bound w dim) s.line (r.value ∷ []) (Scalar I32) [] h) refl;
+    whole = whole_by_kind _ _ (own_value vs n (what.Bound w dim) s.line (r.value ∷ []) (Scalar I32) [] [] h) refl;
   }
 
   pub stride-apart : (s : Scope) (n : ℕ) → Holds vs n (constant I32 (pos 1) s n).ops → Apart vs (constant I32 (pos 1) s n) []
   unfolding giving
   stride-apart s n h = record {
     priced = priced-weaker vs (constant I32 (pos 1) s n) 1 0 0 8 0 0 (priced-constant vs I32 (pos 1) s n) (omega arith) (omega arith) (omega arith);
-    whole = whole_by_kind _ _ (value-there vs n (what.Constant (pos 1)) s.line [] (Scalar I32) [] h) refl;
+    whole = whole_by_kind _ _ (own_value vs n (what.Constant (pos 1)) s.line [] (Scalar I32) [] [] h) refl;
   }

@@ -67,6 +67,14 @@ module _ (vs : List Value) where
   unfolding ◌then◌
   spends-then p q s n z r w z' r' w' a b = costs-append (p s n).ops (q (p s n).made s (n + numbers_of (p s n).ops)).ops z r w z' r' w' a b
 
+  -- one lowering, then another, and what is made of both
+  pub spends-both : {A B C : Type 0} (p : Lowering A) (q : Lowering B) (f : A → B → C) (s : Scope) (n z r w z' r' w' : ℕ) → Spends p s n z r w → Spends q s (n + numbers_of (p s n).ops) z' r' w' →
+      Spends (p then (λ x. q then (λ y. done (f x y)))) s n (z + (z' + 0)) (r + (r' + 0)) (w + (w' + 0))
+  spends-both p q f s n z r w z' r' w' a b =
+      let m = n + numbers_of (p s n).ops in
+      spends-then p (λ x. q then (λ y. done (f x y))) s n z r w (z' + 0) (r' + 0) (w' + 0) a
+      (spends-then q (λ y. done (f (p s n).made y)) s m z' r' w' 0 0 0 b (spends-done (f (p s n).made (q s m).made) s (m + numbers_of (q s m).ops)))
+
   pub spends-giving : (w : What) (os : List ValueId) (k : ValueKind) (s : Scope) (n : ℕ) → is_light w os ≡ true → Spends (giving w os k) s n (suc (length os)) (reduces w os) (wholes vs w os)
   unfolding giving
   spends-giving w os k s n h = costs-op w s.line os (Some k) h

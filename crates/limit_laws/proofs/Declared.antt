@@ -1,11 +1,11 @@
 -- The declares of a source: they are found, at most 64, and small.
-use Rattle.std.proofs.Common.{◌≡◌, refl, ap, ◌∙◌, subst, ℕ, suc, ◌+◌, ◌<◌, ◌≤◌, nat_lt, nat_le, Bool, true, false, List, [], ◌∷◌, ◌++◌, length, All, Some, arith}
+use Rattle.std.proofs.Common.{◌≡◌, refl, ap, ◌∙◌, ℕ, suc, ◌+◌, ◌<◌, ◌≤◌, nat_lt, nat_le, Bool, true, false, List, [], ◌∷◌, ◌++◌, length, All, Some, arith}
 use Rattle.std.specs.Prelude.{⊤}
 use Rattle.std.specs.List.{list_all}
 use Rattle.std.proofs.lemmas.Bool.{and_from}
 use Rattle.std.proofs.lemmas.List.{length-append}
 use Rattle.std.proofs.lemmas.List.Folds.{list_all-append}
-use Rattle.std.proofs.lemmas.List.Elements.{All-nil, All-cons, All-head, All-tail}
+use Rattle.std.proofs.lemmas.List.Elements.{All-head, All-tail}
 use Rattle.ws_tree.specs.declared.stmt.Decl.{Decl}
 use Rattle.ws_types.specs.declared.constant.Constant.{Constant}
 use Rattle.ws_sema.specs.Declarations.{heading_faults, decls_faults, with_constant}
@@ -14,7 +14,6 @@ use Rattle.hlfir_ops.specs.declared.op.Op.{Op, Op-F, out-roll-Op}
 use Rattle.hlfir_ops.specs.declared.op.Region.{Region}
 use Rattle.hlfir_ops.specs.Trees.{op_of}
 use Rattle.hlfir_ops.specs.Numbers.{numbers_of}
-use Rattle.hlfir_ops.proofs.Numbered.{op_numbers-op_of}
 use Rattle.hlfir_ops.specs.RulesValues.{Value}
 use Rattle.hlfir_ops.specs.RulesPlaces.{Around, sites_of}
 use Rattle.hlfir_ops.specs.RulesStatements.{declares, is_declare}
@@ -22,13 +21,11 @@ use Rattle.hlfir_ops.specs.RulesLimits.{declares_in, declare_limit}
 use Rattle.lower_values.specs.declared.names.Variable.{Variable}
 use Rattle.lower_values.specs.Scopes.{Scope}
 use Rattle.lower_values.specs.Lowerings.{Lowering, done, ◌>>=◌ as ◌then◌, in_turn, giving}
-use Rattle.lower_assign.specs.Known.{variable, declares_variable, if_variable, variable_decls, numbered}
+use Rattle.lower_assign.specs.Known.{declares_variable, if_variable, variable_decls, numbered}
 use Rattle.lower_constructs.specs.Modules.{declaration}
 use Rattle.small_laws.proofs.NoFaults.{none_first, none_after, not_broken}
-use Rattle.kind_laws.specs.Found.{Holds, DeclareIsFound}
 use Rattle.kind_laws.proofs.Sited.{sites_of-append, defined_by}
 use Rattle.limit_laws.proofs.Costs.{one_if}
-use Rattle.limit_laws.proofs.Held.{holds-first, holds-rest, value-there}
 use Rattle.limit_laws.proofs.Passing.{fits_there, passing-at, regions-none}
 use Rattle.limit_laws.proofs.Shapes.{HasSmallKind}
 
@@ -84,21 +81,6 @@ below n h = grind (arith, h)
 module _ (vs : List Value) (s : Scope) where
   abbrev all : ℕ → List Variable → Lowering ⊤
   all = in_turn declaration
-
-  all_number : (n : ℕ) (v : Variable) → n + numbers_of (declare v s.line ∷ [] ++ []) ≡ suc n
-  all_number n v = omega (arith, op_numbers-op_of (what.Declare v.name) s.line [] (Some v.declare.kind) [])
-
-  -- they are found
-  pub declares-found : (k n : ℕ) (cs : List Constant) (ds : List Decl) → Holds vs n (all k (numbered n cs ds) s n).ops → All (DeclareIsFound vs) (numbered n cs ds)
-  unfolding in_turn declaration giving ◌then◌ done
-  declares-found k n cs [] h = All-nil (DeclareIsFound vs)
-  declares-found k n cs (d ∷ ds) h =
-      let v = variable n cs d in
-      let first = declare v s.line ∷ [] ++ [] in
-      let m = n + numbers_of first in
-      let rest = (all (suc k) (numbered (suc n) cs ds) s m).ops in
-      All-cons (DeclareIsFound vs) v (numbered (suc n) cs ds) (value-there vs n (what.Declare v.name) s.line [] v.declare.kind [] (holds-first vs n first rest h))
-      (declares-found (suc k) (suc n) cs ds (subst (λ (j : ℕ). Holds vs j (all (suc k) (numbered (suc n) cs ds) s j).ops) (all_number n v) (holds-rest vs n first rest h)))
 
   -- they keep the limits
   pub declares-pass : (a : Around) (k n : ℕ) (variables : List Variable) (before : List Op) (number : ℕ) (d : List ℕ) → declares_in before + length variables ≤ 64 → All HasSmallKind variables → list_all (fits_there vs) (sites_of a before number d (all k variables s n).ops) ≡ true

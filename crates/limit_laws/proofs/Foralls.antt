@@ -38,11 +38,12 @@ use Rattle.kind_laws.proofs.ScopesKnown.{header_known, forall_known}
 use Rattle.kind_laws.proofs.ScopesFound.{inside_found}
 use Rattle.limit_laws.proofs.Costs.{total, size, Costs}
 use Rattle.limit_laws.proofs.Costing.{costs-weaker}
-use Rattle.limit_laws.proofs.Held.{HoldsValues, then-first, then-rest, regions-there, region-there, names-there, rest-there}
+use Rattle.limit_laws.proofs.Held.{HoldsValues, regions-there, region-there, names-there, rest-there}
 use Rattle.limit_laws.proofs.Passing.{RegionsPass, passing-light, regions-none, regions-more, passing-op}
 use Rattle.limit_laws.proofs.Tallying.{pieces_are}
 use Rattle.limit_laws.proofs.Walking.{First, Whole, first-inner, inner-none, first-masked, whole-forall}
-use Rattle.limit_laws.proofs.Scopes.{knows-moved, found-moved}
+use Rattle.kind_laws.proofs.ScopesMoved.{knows-moved, found-moved}
+use Rattle.kind_laws.proofs.Held.{held-first, held-rest}
 use Rattle.limit_laws.proofs.Formed.{IsFormed, AreFormed}
 use Rattle.limit_laws.proofs.Sides.{side-costs, spends-all_yielded}
 use Rattle.limit_laws.proofs.Headers.{header-costs, indexes_are}
@@ -107,8 +108,8 @@ module _ (types : TypesAreKnown) (kinds : KindsAreTypes) (found : ValuesAreFound
   assignments-in t b (more_stmts line body rest) i f s n a knows here masked h =
       let m = n + numbers_of (statement line body s n).ops in
       stands-more types kinds found vs a (statement line body s n).ops (statements rest s m).ops (p.statement_pieces t true body) (p.forall_pieces t rest) 0 0
-      (assigned-in t line b body i.0 (none_first _ _ f) s n a knows here masked (then-first vs (statement line body) (λ _. statements rest) s n h))
-      (assignments-in t b rest i.1 (none_after _ _ f) s m a knows here masked (then-rest vs (statement line body) (λ _. statements rest) s n h))
+      (assigned-in t line b body i.0 (none_first _ _ f) s n a knows here masked (held-first vs (statement line body) (λ _. statements rest) s n h))
+      (assignments-in t b rest i.1 (none_after _ _ f) s m a knows here masked (held-rest vs (statement line body) (λ _. statements rest) s n h))
 
   -- ---- the whole
 
@@ -153,7 +154,7 @@ module _ (types : TypesAreKnown) (kinds : KindsAreTypes) (found : ValuesAreFound
         let bs = p.forall_pieces (inner t (x ∷ is)) block in
         let known = header_known t s (x ∷ is) line (n + 0) knows in
         let head_held = region-there vs (n + 0) op 0 head_ops (region_of body_ops ∷ []) h in
-        let headed = header-costs types kinds found vs (barred t (x ∷ is)) head_scope known (found-moved vs s head_scope.masked head_scope.line here) t line (n + 0 + 0) [] (x ∷ is) formed.1 (none_first _ _ f) (then-first vs (triples (x ∷ is)) (λ xs. acting what.Yield xs) head_scope (n + 0 + 0) head_held) in
+        let headed = header-costs types kinds found vs (barred t (x ∷ is)) head_scope known (found-moved vs s head_scope.masked head_scope.line here) t line (n + 0 + 0) [] (x ∷ is) formed.1 (none_first _ _ f) (held-first vs (triples (x ∷ is)) (λ xs. acting what.Yield xs) head_scope (n + 0 + 0) head_held) in
         let costs : Costs vs head_ops (27 * parts_in hs + 1) (reductions_in hs) (wholes_in hs) = costs-weaker vs _ _ _ _ (27 * parts_in hs + 1) (reductions_in hs) (wholes_in hs)
         (spends-all_yielded vs (triples (x ∷ is)) head_scope (n + 0 + 0) (total size (triples (x ∷ is) head_scope (n + 0 + 0)).ops) (reductions_in hs) (wholes_in hs) (record { light = headed.light; size = omega arith; reductions = headed.reductions; wholes = headed.wholes }))
         (omega (arith, headed.size)) (omega arith) (omega arith) in
@@ -165,8 +166,8 @@ module _ (types : TypesAreKnown) (kinds : KindsAreTypes) (found : ValuesAreFound
         let later = body_number + numbers_of (forall_mask mask body_scope body_number).ops in
         let inner_around = around_in a op 1 in
         let stands = stands-more types kinds found vs inner_around (forall_mask mask body_scope body_number).ops (statements block body_scope later).ops ms bs 0 0
-        (given-mask-stands (inner t (x ∷ is)) line mask body_scope body_number inner_around in_body here_body formed.2 (none_after _ _ f) (then-first vs (forall_mask mask) (λ _. statements block) body_scope body_number body_held))
-        (assignments-in (inner t (x ∷ is)) b block blocks g body_scope later inner_around in_body here_body refl (then-rest vs (forall_mask mask) (λ _. statements block) body_scope body_number body_held)) in
+        (given-mask-stands (inner t (x ∷ is)) line mask body_scope body_number inner_around in_body here_body formed.2 (none_after _ _ f) (held-first vs (forall_mask mask) (λ _. statements block) body_scope body_number body_held))
+        (assignments-in (inner t (x ∷ is)) b block blocks g body_scope later inner_around in_body here_body refl (held-rest vs (forall_mask mask) (λ _. statements block) body_scope body_number body_held)) in
         record {
           whole = subst (λ ps. Whole vs (order_of (op_of op line [] None rs ∷ [])) ps) (sym (append_assoc hs ms bs))
               (whole-forall vs op line head_ops body_ops _ (ms ++ bs) (λ c. refl) costs (indexes_are (barred t (x ∷ is)) (x ∷ is)).1 stands.inner);

@@ -1,7 +1,6 @@
 -- Costs of the expressions of a header, DO, ALLOCATE or READ.
-use Rattle.std.proofs.Common.{◌≡◌, refl, ℕ, ◌+◌, ◌*◌, ◌≤◌, false, List, [], ◌∷◌, ◌++◌, length, All, Option, Some, None, arith}
+use Rattle.std.proofs.Common.{◌≡◌, refl, ℕ, ◌+◌, ◌*◌, false, List, [], ◌∷◌, ◌++◌, length, All, Option, Some, None, arith}
 use Rattle.std.specs.Prelude.{pos}
-use Rattle.std.proofs.lemmas.List.{length-append}
 use Rattle.std.proofs.lemmas.List.Elements.{All-head, All-tail}
 use Rattle.ws_tree.specs.declared.expr.Expr.{Expr}
 use Rattle.ws_tree.specs.declared.stmt.Index.{Index}
@@ -9,7 +8,6 @@ use Rattle.ws_tree.specs.Grammatical.{IsSide, IsOptional, IsIndex}
 use Rattle.ws_types.specs.declared.types.Row.{Row}
 use Rattle.ws_types.specs.Expressions.{faults}
 use Rattle.ws_types.specs.Lists as lists
-use Rattle.ws_counts.specs.declared.tally.Piece.{Piece}
 use Rattle.ws_counts.specs.Counts.{parts_in, reductions_in, wholes_in}
 use Rattle.ws_counts.specs.Pieces as p
 use Rattle.ws_sema.specs.Statements.{header_faults}
@@ -18,7 +16,7 @@ use Rattle.hlfir_ops.specs.declared.op.ValueId.{ValueId}
 use Rattle.hlfir_ops.specs.Numbers.{numbers_of}
 use Rattle.hlfir_ops.specs.RulesValues.{Value}
 use Rattle.lower_values.specs.Scopes.{Scope}
-use Rattle.lower_values.specs.Lowerings.{Lowering, Lowered, done, ◌>>=◌ as ◌then◌}
+use Rattle.lower_values.specs.Lowerings.{Lowering, done, ◌>>=◌ as ◌then◌}
 use Rattle.lower_values.specs.Values.{value}
 use Rattle.lower_values.specs.Lists.{stride}
 use Rattle.lower_values.specs.Operations.{constant}
@@ -27,21 +25,15 @@ use Rattle.small_laws.proofs.NoFaults.{none_first, none_after}
 use Rattle.kind_laws.specs.Standing.{Knows}
 use Rattle.kind_laws.specs.Found.{Holds, ScopeIsFound}
 use Rattle.kind_laws.specs.Laws.{TypesAreKnown, KindsAreTypes, ValuesAreFound}
-use Rattle.limit_laws.proofs.Costs.{total, heavy, size, reduces, wholes, Costs}
+use Rattle.kind_laws.proofs.Held.{held-first, held-rest}
+use Rattle.limit_laws.proofs.Costs.{size, wholes, Costs}
 use Rattle.limit_laws.proofs.Costing.{costs-weaker, spends-done, spends-then}
-use Rattle.limit_laws.proofs.Held.{then-first, then-rest}
 use Rattle.limit_laws.proofs.Operations.{priced-weaker, priced-costs, priced-constant}
 use Rattle.limit_laws.proofs.Pieces.{parts-append, reductions-append, wholes-append}
-use Rattle.limit_laws.proofs.Bounded.{Valued}
+use Rattle.limit_laws.proofs.Bounded.{Valued, Headed}
 use Rattle.limit_laws.proofs.Sides.{side-valued}
 use Rattle.limit_laws.proofs.Tallying.{AreValuePieces, both_values, pieces_are}
-
--- values that become operands
-pub record Headed (vs : List Value) (r : Lowered (List ValueId)) (ps : List Piece) : Type 0 where
-  pub light : total heavy r.ops ≤ 0
-  pub size : total size r.ops + length r.made ≤ 27 * parts_in ps
-  pub reductions : total reduces r.ops ≤ reductions_in ps
-  pub wholes : total (wholes vs) r.ops ≤ wholes_in ps
+use Rattle.limit_laws.proofs.Steps.{headed-none, headed-step}
 
 module _ (types : TypesAreKnown) (kinds : KindsAreTypes) (found : ValuesAreFound) (vs : List Value) (t : List Row) (s : Scope) (knows : Knows t s) (here : ScopeIsFound vs s) where
   pub stride-valued : (line n : ℕ) (o : Option Expr) → IsOptional o → lists.given_faults t false line o ≡ [] → Holds vs n (stride o s n).ops → Valued vs (stride o s n) (p.given_pieces t false false o)
@@ -62,15 +54,15 @@ module _ (types : TypesAreKnown) (kinds : KindsAreTypes) (found : ValuesAreFound
       let x = (value l s n).made in
       let y = (value u s m).made in
       let z = (stride o s k).made in
-      let h1 = then-rest vs (value l) (λ a. value u then (λ b. stride o then (λ c. done (a.value ∷ b.value ∷ c.value ∷ [])))) s n h in
-      let h2 = then-rest vs (value u) (λ b. stride o then (λ c. done (x.value ∷ b.value ∷ c.value ∷ []))) s m h1 in
+      let h1 = held-rest vs (value l) (λ a. value u then (λ b. stride o then (λ c. done (a.value ∷ b.value ∷ c.value ∷ [])))) s n h in
+      let h2 = held-rest vs (value u) (λ b. stride o then (λ c. done (x.value ∷ b.value ∷ c.value ∷ []))) s m h1 in
       costs-weaker vs _ _ _ _ (24 + 27 * parts_in ((pl ++ pu) ++ po)) (reductions_in ((pl ++ pu) ++ po)) (wholes_in ((pl ++ pu) ++ po))
       (spends-then vs (value l) (λ a. value u then (λ b. stride o then (λ c. done (a.value ∷ b.value ∷ c.value ∷ [])))) s n (8 + 27 * parts_in pl) (reductions_in pl) (wholes_in pl) ((8 + 27 * parts_in pu) + ((8 + 27 * parts_in po) + 0)) (reductions_in pu + (reductions_in po + 0)) (wholes_in pu + (wholes_in po + 0))
-      (priced-costs vs _ _ _ _ (side-valued types kinds found vs t false false s knows here line n l il fl (then-first vs (value l) (λ a. value u then (λ b. stride o then (λ c. done (a.value ∷ b.value ∷ c.value ∷ [])))) s n h)))
+      (priced-costs vs _ _ _ _ (side-valued types kinds found vs t false false s knows here line n l il fl (held-first vs (value l) (λ a. value u then (λ b. stride o then (λ c. done (a.value ∷ b.value ∷ c.value ∷ [])))) s n h)))
       (spends-then vs (value u) (λ b. stride o then (λ c. done (x.value ∷ b.value ∷ c.value ∷ []))) s m (8 + 27 * parts_in pu) (reductions_in pu) (wholes_in pu) ((8 + 27 * parts_in po) + 0) (reductions_in po + 0) (wholes_in po + 0)
-      (priced-costs vs _ _ _ _ (side-valued types kinds found vs t false false s knows here line m u iu fu (then-first vs (value u) (λ b. stride o then (λ c. done (x.value ∷ b.value ∷ c.value ∷ []))) s m h1)))
+      (priced-costs vs _ _ _ _ (side-valued types kinds found vs t false false s knows here line m u iu fu (held-first vs (value u) (λ b. stride o then (λ c. done (x.value ∷ b.value ∷ c.value ∷ []))) s m h1)))
       (spends-then vs (stride o) (λ c. done (x.value ∷ y.value ∷ c.value ∷ [])) s k (8 + 27 * parts_in po) (reductions_in po) (wholes_in po) 0 0 0
-      (priced-costs vs _ _ _ _ (stride-valued line k o io fo (then-first vs (stride o) (λ c. done (x.value ∷ y.value ∷ c.value ∷ [])) s k h2)))
+      (priced-costs vs _ _ _ _ (stride-valued line k o io fo (held-first vs (stride o) (λ c. done (x.value ∷ y.value ∷ c.value ∷ [])) s k h2)))
       (spends-done vs (x.value ∷ y.value ∷ z.value ∷ []) s (k + numbers_of (stride o s k).ops)))))
       (omega (arith, parts-append (pl ++ pu) po, parts-append pl pu)) (omega (arith, reductions-append (pl ++ pu) po, reductions-append pl pu)) (omega (arith, wholes-append (pl ++ pu) po, wholes-append pl pu))
 
@@ -78,46 +70,25 @@ module _ (types : TypesAreKnown) (kinds : KindsAreTypes) (found : ValuesAreFound
   unfolding triple ◌then◌ done
   triple-length n l u o = refl
 
-  -- one list of values after another
-  pub headed-step : (n : ℕ) (q r : Lowering (List ValueId)) (ps qs : List Piece) → Headed vs (q s n) ps → Headed vs (r s (n + numbers_of (q s n).ops)) qs → Headed vs ((q then (λ xs. r then (λ ys. done (xs ++ ys)))) s n) (ps ++ qs)
-  unfolding ◌then◌ done
-  headed-step n q r ps qs h g =
-      let m = n + numbers_of (q s n).ops in
-      let xs = (q s n).made in
-      let ys = (r s m).made in
-      let c = spends-then vs q (λ us. r then (λ bs. done (us ++ bs))) s n (total size (q s n).ops) (reductions_in ps) (wholes_in ps) (total size (r s m).ops + 0) (reductions_in qs + 0) (wholes_in qs + 0)
-      (record { light = h.light; size = omega arith; reductions = h.reductions; wholes = h.wholes })
-      (spends-then vs r (λ bs. done (xs ++ bs)) s m (total size (r s m).ops) (reductions_in qs) (wholes_in qs) 0 0 0 (record { light = g.light; size = omega arith; reductions = g.reductions; wholes = g.wholes }) (spends-done vs (xs ++ ys) s (m + numbers_of (r s m).ops))) in
-      record {
-        light = c.light;
-        size = omega (arith, c.size, h.size, g.size, length-append xs ys, parts-append ps qs);
-        reductions = omega (arith, c.reductions, reductions-append ps qs);
-        wholes = omega (arith, c.wholes, wholes-append ps qs);
-      }
-
-  headed-none : (n : ℕ) → let none : Lowering (List ValueId) = done [] in Headed vs (none s n) []
-  unfolding done
-  headed-none n = record { light = omega arith; size = omega arith; reductions = omega arith; wholes = omega arith }
-
   triple-headed : (n : ℕ) (x : Index) → Costs vs (triple x.l x.u x.s s n).ops (24 + 27 * parts_in ((p.pieces t false false x.l ++ p.pieces t false false x.u) ++ p.given_pieces t false false x.s)) (reductions_in ((p.pieces t false false x.l ++ p.pieces t false false x.u) ++ p.given_pieces t false false x.s))
-      (wholes_in ((p.pieces t false false x.l ++ p.pieces t false false x.u) ++ p.given_pieces t false false x.s)) → Headed vs (triple x.l x.u x.s s n) (p.index_pieces t x)
+      (wholes_in ((p.pieces t false false x.l ++ p.pieces t false false x.u) ++ p.given_pieces t false false x.s)) → Headed vs (triple x.l x.u x.s s n) 0 (p.index_pieces t x)
   triple-headed n x c = record { light = c.light; size = omega (arith, c.size, triple-length n x.l x.u x.s); reductions = omega (arith, c.reductions); wholes = omega (arith, c.wholes) }
 
-  pub header-costs : (names : List Row) (line n : ℕ) (before is : List Index) → All IsIndex is → header_faults names t line before is ≡ [] → Holds vs n (triples is s n).ops → Headed vs (triples is s n) (p.indexes_pieces t is)
+  pub header-costs : (names : List Row) (line n : ℕ) (before is : List Index) → All IsIndex is → header_faults names t line before is ≡ [] → Holds vs n (triples is s n).ops → Headed vs (triples is s n) 0 (p.indexes_pieces t is)
   unfolding triples
-  header-costs names line n before [] i f h = headed-none n
+  header-costs names line n before [] i f h = headed-none vs s n
   header-costs names line n before (x ∷ is) i f h =
       let q : Lowering (List ValueId) = triple x.l x.u x.s in
       let m = n + numbers_of (q s n).ops in
       let formed = All-head IsIndex x is i in
-      let h1 = then-rest vs q (λ us. triples is then (λ bs. done (us ++ bs))) s n h in
-      headed-step n q (triples is) (p.index_pieces t x) (p.indexes_pieces t is)
+      let h1 = held-rest vs q (λ us. triples is then (λ bs. done (us ++ bs))) s n h in
+      headed-step vs s n q (triples is) 0 0 (p.index_pieces t x) (p.indexes_pieces t is)
       (triple-headed n x (triple-costs line n x.l x.u x.s formed.0 formed.1 formed.2
       (none_first _ _ (none_after _ _ (none_first _ _ (none_first _ _ (none_first _ _ f)))))
       (none_first _ _ (none_after _ _ (none_first _ _ (none_first _ _ f))))
       (none_after _ _ (none_first _ _ f))
-      (then-first vs q (λ us. triples is then (λ bs. done (us ++ bs))) s n h)))
-      (header-costs names line m (before ++ x ∷ []) is (All-tail IsIndex x is i) (none_after _ _ f) (then-first vs (triples is) (λ bs. done ((q s n).made ++ bs)) s m h1))
+      (held-first vs q (λ us. triples is then (λ bs. done (us ++ bs))) s n h)))
+      (header-costs names line m (before ++ x ∷ []) is (All-tail IsIndex x is i) (none_after _ _ f) (held-first vs (triples is) (λ bs. done ((q s n).made ++ bs)) s m h1))
 
 -- ---- pieces of values
 

@@ -1,6 +1,5 @@
 -- The values of ops that stand one after another, among all values.
 use Rattle.std.proofs.Common.{◌≡◌, refl, sym, ap, ◌∙◌, subst, ℕ, suc, ◌+◌, List, [], ◌∷◌, ◌++◌, length, map, Option, Some, None, append_assoc, append-nil, arith}
-use Rattle.std.specs.Prelude.{slice_get}
 use Rattle.std.proofs.lemmas.List.{length-append, length-map}
 use Rattle.hlfir_ops.specs.declared.kinds.ValueKind.{ValueKind}
 use Rattle.hlfir_ops.specs.declared.what.What.{What}
@@ -9,11 +8,9 @@ use Rattle.hlfir_ops.specs.declared.op.Op.{Op, Op-F, roll-Op, out-roll-Op}
 use Rattle.hlfir_ops.specs.declared.op.Region.{Region, out-roll-Region}
 use Rattle.hlfir_ops.specs.Trees.{op_of, region_of}
 use Rattle.hlfir_ops.specs.Numbers.{names_in, own_numbers, numbers_of}
-use Rattle.hlfir_ops.specs.RulesValues.{Value, own_values, op_values, values_of, values_in, value_at, value_of_name, source_of}
-use Rattle.lower_values.specs.Scopes.{Scope}
-use Rattle.lower_values.specs.Lowerings.{Lowering, ◌>>=◌ as ◌then◌}
+use Rattle.hlfir_ops.specs.RulesValues.{Value, own_values, op_values, values_of, values_in, value_of_name}
 use Rattle.kind_laws.specs.Found.{Holds}
-use Rattle.kind_laws.proofs.Sited.{op_values-parts, values_of-append, values_of-length}
+use Rattle.kind_laws.proofs.Sited.{op_values-parts, values_of-length}
 
 -- a part of all values, from this number on
 pub record HoldsValues (vs : List Value) (n : ℕ) (part : List Value) : Type 0 where
@@ -40,37 +37,12 @@ module _ (vs : List Value) where
   pub of-part : (n : ℕ) (ops : List Op) → HoldsValues vs n (values_of ops) → Holds vs n ops
   of-part n ops h = record { before = h.before; after = h.after; whole = h.whole; count = h.count }
 
-  pub holds-first : (n : ℕ) (xs ys : List Op) → Holds vs n (xs ++ ys) → Holds vs n xs
-  holds-first n xs ys h = of-part n xs (part-first n (values_of xs) (values_of ys) (subst (HoldsValues vs n) (values_of-append xs ys) (part-of n (xs ++ ys) h)))
-
-  pub holds-rest : (n : ℕ) (xs ys : List Op) → Holds vs n (xs ++ ys) → Holds vs (n + numbers_of xs) ys
-  holds-rest n xs ys h = of-part (n + numbers_of xs) ys
-      (part-rest n (n + numbers_of xs) (values_of xs) (values_of ys) (omega (arith, values_of-length xs)) (subst (HoldsValues vs n) (values_of-append xs ys) (part-of n (xs ++ ys) h)))
-
-  pub then-first : {A B : Type 0} (p : Lowering A) (q : A → Lowering B) (s : Scope) (n : ℕ) → Holds vs n ((p then q) s n).ops → Holds vs n (p s n).ops
-  unfolding ◌then◌
-  then-first p q s n h = holds-first n (p s n).ops (q (p s n).made s (n + numbers_of (p s n).ops)).ops h
-
-  pub then-rest : {A B : Type 0} (p : Lowering A) (q : A → Lowering B) (s : Scope) (n : ℕ) → Holds vs n ((p then q) s n).ops → Holds vs (n + numbers_of (p s n).ops) (q (p s n).made s (n + numbers_of (p s n).ops)).ops
-  unfolding ◌then◌
-  then-rest p q s n h = holds-rest n (p s n).ops (q (p s n).made s (n + numbers_of (p s n).ops)).ops h
-
   -- ---- an op by its fields
 
   values-op : (w : What) (line : ℕ) (os : List ValueId) (k : Option ValueKind) (rs : List Region) → values_of (op_of w line os k rs ∷ []) ≡ own_values w k ++ values_in w 0 rs
   values-op w line os k rs =
       let whole : Op-F Op Region = record { what = w; line = line; operands = os; kind = k; regions = rs } in
       append-nil (op_values (roll-Op whole)) ∙ (op_values-parts (roll-Op whole) ∙ ap (λ f. own_values f.what f.kind ++ values_in f.what 0 f.regions) (out-roll-Op whole))
-
-  get_there : (before : List Value) (v : Value) (after : List Value) → slice_get (before ++ v ∷ after) (length before) ≡ Some v
-  get_there [] v after = refl
-  get_there (b ∷ before) v after = get_there before v after
-
-  pub value-there : (n : ℕ) (w : What) (line : ℕ) (os : List ValueId) (k : ValueKind) (rs : List Region) → Holds vs n (op_of w line os (Some k) rs ∷ []) → value_at vs (record { number = n }) ≡ Some (record { kind = k; source = source_of w })
-  value-there n w line os k rs h =
-      let v : Value = record { kind = k; source = source_of w } in
-      let whole : vs ≡ h.before ++ v ∷ (values_in w 0 rs ++ h.after) = h.whole ∙ ap (λ l. h.before ++ (l ++ h.after)) (values-op w line os (Some k) rs) in
-      ap (λ m. slice_get vs m) (sym h.count) ∙ (ap (λ l. slice_get l (length h.before)) whole ∙ get_there h.before v (values_in w 0 rs ++ h.after))
 
   pub regions-there : (n : ℕ) (w : What) (line : ℕ) (os : List ValueId) (k : Option ValueKind) (rs : List Region) → Holds vs n (op_of w line os k rs ∷ []) → HoldsValues vs (n + own_numbers k) (values_in w 0 rs)
   regions-there n w line os k rs h =

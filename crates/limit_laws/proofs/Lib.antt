@@ -16,7 +16,6 @@ pub mod Tallying
 pub mod Formed
 pub mod Sides
 pub mod Walking
-pub mod Scopes
 pub mod Wheres
 pub mod WhereBlocks
 pub mod Headers

@@ -1,6 +1,6 @@
 -- A whole statement counts no more than the steps of the source do, and keeps the limits where these do.
-use Rattle.std.proofs.Common.{◌≡◌, refl, sym, ap, ◌∙◌, subst, ℕ, ◌+◌, ◌*◌, ◌≤◌, ◌||◌, min, max, nat_le, Bool, true, false, List, [], ◌∷◌, ◌++◌, None, arith, if◌then◌else◌}
-use Rattle.std.proofs.lemmas.Bool.{and_from}
+use Rattle.std.proofs.Common.{◌≡◌, refl, sym, ap, ◌∙◌, subst, ℕ, ◌+◌, ◌*◌, ◌≤◌, ◌||◌, min, max, Bool, true, false, List, [], ◌∷◌, ◌++◌, None, arith, if◌then◌else◌}
+use Rattle.std.proofs.lemmas.Bool.{and_from, le-leb}
 use Rattle.hlfir_ops.specs.declared.what.What.{What}
 use Rattle.hlfir_ops.specs.declared.op.Op.{Op, Op-F, out-Op, out-roll-Op}
 use Rattle.hlfir_ops.specs.declared.op.Region.{Region}
@@ -118,11 +118,8 @@ module _ (vs : List Value) where
         temporaries = subst (λ (d : Count). d.temporaries ≤ temporaries_of ss) (sym same) (uncapped (ended c).temporaries (temporaries_of ss) (omega (arith, temporaries)) (omega (arith, r.temporaries, all_temporaries)));
       }
 
-  at_most : (n m : ℕ) → n ≤ m → nat_le n m ≡ true
-  at_most n m h = grind (arith, h)
-
   pub count-fits : (p t : ℕ) → p ≤ 512 → t ≤ 64 → fits_count p t ≡ true
-  count-fits p t hp ht = and_from _ _ (at_most p phase_limit hp) (at_most t temporary_limit ht)
+  count-fits p t hp ht = and_from _ _ (le-leb p phase_limit hp) (le-leb t temporary_limit ht)
 
   or_right : (b c : Bool) → c ≡ true → (b || c) ≡ true
   or_right true c h = refl
@@ -130,5 +127,5 @@ module _ (vs : List Value) where
 
   pub statement-fits : (masked shared : Bool) (op : Op) (ss : List (List Piece)) → Measured op ss → phases_of ss ≤ 512 → temporaries_of ss ≤ 64 → statement_fits masked shared vs op ≡ true
   statement-fits masked shared op ss m hp ht =
-      or_right masked _ (and_from _ _ (at_most (size_of (order_in (out-Op op).regions)) size_limit m.size)
+      or_right masked _ (and_from _ _ (le-leb (size_of (order_in (out-Op op).regions)) size_limit m.size)
       (or_right shared _ (count-fits (statement_count vs op).phases (statement_count vs op).temporaries (omega (arith, m.phases, hp)) (omega (arith, m.temporaries, ht)))))

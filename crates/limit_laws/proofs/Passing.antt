@@ -3,6 +3,7 @@ use Rattle.std.proofs.Common.{◌≡◌, refl, sym, ap, ◌∙◌, subst, ℕ, s
 use Rattle.std.specs.List.{list_all}
 use Rattle.std.proofs.lemmas.Bool.{and_from, false≢true}
 use Rattle.std.proofs.lemmas.List.Folds.{list_all-append}
+use Rattle.std.proofs.lemmas.List.{map-append}
 use mathlib.Core.Former.{Count}
 use Rattle.hlfir_ops.specs.declared.kinds.ValueKind.{ValueKind}
 use Rattle.hlfir_ops.specs.declared.what.What.{What}
@@ -23,10 +24,6 @@ use Rattle.limit_laws.proofs.Costs.{sum_of, weight, total, is_light, heavy}
 abbrev op_there : Site → Op
 op_there s = s.op
 
-map_append : {X Y : Type 0} (f : X → Y) (xs ys : List X) → map f (xs ++ ys) ≡ map f xs ++ map f ys
-map_append f [] ys = refl
-map_append f (x ∷ xs) ys = ap (λ l. f x ∷ l) (map_append f xs ys)
-
 mutual
   op_in_order : (p : Place) (op : Op) → map op_there (op_sites p op) ≡ op_order op
   op_in_order p (Op' w line operands kind h regions) = ap (λ l. Op' w line operands kind h regions ∷ l) (regions_in_order p.around w 0 (own_numbers kind + p.number) p.defined regions)
@@ -36,7 +33,7 @@ mutual
   regions_in_order a w k n d (more_regions (Region' _ ops) regions) =
       let first = ops_sites (around_in a w k) [] (length (names_in w k) + n) (d ++ from_number n (names_in w k)) ops in
       let rest = regions_sites a w (suc k) ((length (names_in w k) + ops_numbers ops) + n) d regions in
-      map_append op_there first rest
+      map-append op_there first rest
       ∙ (ap (λ l. l ++ map op_there rest) (ops_in_order (around_in a w k) [] (length (names_in w k) + n) (d ++ from_number n (names_in w k)) ops)
       ∙ ap (λ l. ops_order ops ++ l) (regions_in_order a w (suc k) ((length (names_in w k) + ops_numbers ops) + n) d regions))
 
@@ -45,7 +42,7 @@ mutual
   ops_in_order a before n d (more_ops op ops) =
       let place : Place = record { around = a; before = before; number = n; defined = d } in
       let rest = ops_sites a (before ++ op ∷ []) (op_numbers op + n) (d ++ own_defined n (out-Op op).kind) ops in
-      map_append op_there (op_sites place op) rest
+      map-append op_there (op_sites place op) rest
       ∙ (ap (λ l. l ++ map op_there rest) (op_in_order place op)
       ∙ ap (λ l. op_order op ++ l) (ops_in_order a (before ++ op ∷ []) (op_numbers op + n) (d ++ own_defined n (out-Op op).kind) ops))
 
@@ -54,7 +51,7 @@ list_in_order a before n d [] = refl
 list_in_order a before n d (op ∷ ops) =
     let place : Place = record { around = a; before = before; number = n; defined = d } in
     let rest = sites_of a (before ++ op ∷ []) (op_numbers op + n) (d ++ own_defined n (out-Op op).kind) ops in
-    map_append op_there (op_sites place op) rest
+    map-append op_there (op_sites place op) rest
     ∙ (ap (λ l. l ++ map op_there rest) (op_in_order place op)
     ∙ ap (λ l. op_order op ++ l) (list_in_order a (before ++ op ∷ []) (op_numbers op + n) (d ++ own_defined n (out-Op op).kind) ops))
 

@@ -40,10 +40,12 @@ use Rattle.kind_laws.specs.Laws.{TypesAreKnown, KindsAreTypes, ValuesAreFound, i
 use Rattle.kind_laws.proofs.ScopesKnown.{loop_known}
 use Rattle.limit_laws.proofs.Costs.{Costs}
 use Rattle.limit_laws.proofs.Costing.{costs-weaker}
-use Rattle.limit_laws.proofs.Held.{then-first, then-rest, regions-there, region-there, rest-there}
+use Rattle.limit_laws.proofs.Held.{regions-there, region-there, rest-there}
 use Rattle.limit_laws.proofs.Passing.{Passing, passing-light, passing-none, passing-append, regions-none, regions-more, passing-op}
 use Rattle.limit_laws.proofs.Walking.{First, first-whole}
-use Rattle.limit_laws.proofs.Scopes.{knows-moved, found-moved}
+use Rattle.kind_laws.proofs.ScopesMoved.{knows-moved, found-moved}
+use Rattle.kind_laws.proofs.Held.{held-first, held-rest}
+use Rattle.kind_laws.proofs.Faultless.{IsOuter}
 use Rattle.limit_laws.proofs.Formed.{IsFormed, AreFormed, body-formed}
 use Rattle.limit_laws.proofs.Sides.{spends-all_yielded}
 use Rattle.limit_laws.proofs.Headers.{triple-costs, triple-length}
@@ -89,7 +91,7 @@ module _ (types : TypesAreKnown) (kinds : KindsAreTypes) (found : ValuesAreFound
       (none_first _ _ (none_after _ _ (none_first _ _ (none_first _ _ (none_first _ _ (looked_into (is_masked w) line refusal.Unsupported _ f))))))
       (none_first _ _ (none_after _ _ (none_first _ _ (none_first _ _ (looked_into (is_masked w) line refusal.Unsupported _ f)))))
       (none_after _ _ (none_first _ _ (looked_into (is_masked w) line refusal.Unsupported _ f)))
-      (then-first vs (triple l k o) (λ ws. acting what.Yield ws) scope (n + 0 + 0) first)))
+      (held-first vs (triple l k o) (λ ws. acting what.Yield ws) scope (n + 0 + 0) first)))
       (omega (arith, triple-length types kinds found vs t scope (knows-moved t s scope.masked scope.line knows) (found-moved vs s scope.masked scope.line here) (n + 0 + 0) l k o)) (omega arith) (omega arith) in
       let active = loop_known t s w line x (none_after _ _ (none_first _ _ (none_first _ _ (none_first _ _ (none_first _ _ (looked_into (is_masked w) line refusal.Unsupported _ f)))))) knows in
       let block_passes = each block_scope (next + 0) (around_in a op 1) (knows-moved (with_active t x) s block_scope.masked block_scope.line active) (found-moved vs s block_scope.masked block_scope.line here) (more_bodies a b low) (region-there vs next op 1 block_ops [] (rest-there vs (n + 0) op 0 ops (region_of block_ops ∷ []) held)) in
@@ -171,13 +173,10 @@ module _ (types : TypesAreKnown) (kinds : KindsAreTypes) (found : ValuesAreFound
     block-runs t u alike w b (more_stmts line body rest) outer i small f g together s n a knows here low h =
         let m = n + numbers_of (statement line body s n).ops in
         runs-more types kinds found vs w a (statement line body s n).ops (statements rest s m).ops (body_steps u line body) (block_steps u rest)
-        (body-runs t u alike w line b body outer i.0 small.0 (none_first _ _ f) (none_first _ _ g) (together-first w (body_steps u line body) (block_steps u rest) together) s n a knows here low (then-first vs (statement line body) (λ _. statements rest) s n h))
-        (block-runs t u alike w b rest outer i.1 small.1 (none_after _ _ f) (none_after _ _ g) (together-rest w (body_steps u line body) (block_steps u rest) together) s m a knows here low (then-rest vs (statement line body) (λ _. statements rest) s n h))
+        (body-runs t u alike w line b body outer i.0 small.0 (none_first _ _ f) (none_first _ _ g) (together-first w (body_steps u line body) (block_steps u rest) together) s n a knows here low (held-first vs (statement line body) (λ _. statements rest) s n h))
+        (block-runs t u alike w b rest outer i.1 small.1 (none_after _ _ f) (none_after _ _ g) (together-rest w (body_steps u line body) (block_steps u rest) together) s m a knows here low (held-rest vs (statement line body) (λ _. statements rest) s n h))
 
   -- ---- the list of a whole program
-
-  abbrev IsOuter : Stmt → Type 0
-  IsOuter x = IsBody anywhere 64 x.line x.body
 
   pub list-passes : (t : List Row) (xs : List Stmt) → All IsOuter xs → All IsSmallStmt xs → stmts_faults t within.Outside xs ≡ [] → stmts_limits t false xs ≡ [] → (s : Scope) (n : ℕ) (a : Around) → Knows t s → ScopeIsFound vs s → a.bodies ≤ 0 →
       Holds vs n (statement_list xs s n).ops → Passing vs a (statement_list xs s n).ops
@@ -188,5 +187,5 @@ module _ (types : TypesAreKnown) (kinds : KindsAreTypes) (found : ValuesAreFound
       let m = n + numbers_of (q s n).ops in
       passing-append vs a (q s n).ops (statement_list xs s m).ops
       (body-runs t t (alike-self t) within.Outside x.line 0 x.body refl (body-formed anywhere 64 x.line 0 x.body (omega arith) (All-head IsOuter x xs i)) (All-head IsSmallStmt x xs small) (none_first _ _ f) (none_first _ _ g) (none_together within.Outside (body_steps t x.line x.body) refl) s n a knows here low
-      (then-first vs q (λ _. statement_list xs) s n h)).passing
-      (list-passes t xs (All-tail IsOuter x xs i) (All-tail IsSmallStmt x xs small) (none_after _ _ f) (none_after _ _ g) s m a knows here low (then-rest vs q (λ _. statement_list xs) s n h))
+      (held-first vs q (λ _. statement_list xs) s n h)).passing
+      (list-passes t xs (All-tail IsOuter x xs i) (All-tail IsSmallStmt x xs small) (none_after _ _ f) (none_after _ _ g) s m a knows here low (held-rest vs q (λ _. statement_list xs) s n h))

@@ -32,9 +32,9 @@ use Rattle.lower_values.specs.References.{variable_of, or_nothing, declare_of, b
 use Rattle.small_laws.proofs.NoFaults.{none_first, none_after, impossible}
 use Rattle.kind_laws.specs.Standing.{FitsEntry, EntryIsKnown, NameIsKnown}
 use Rattle.kind_laws.specs.Found.{Holds, DeclareIsFound}
+use Rattle.kind_laws.proofs.Finding.{own_value}
 use Rattle.limit_laws.proofs.Costs.{total, size as size_of, Costs, slack, IsProper, Priced, wholes_among, one_if}
 use Rattle.limit_laws.proofs.Costing.{Spends, costs-weaker, spends-done, spends-then, spends-giving}
-use Rattle.limit_laws.proofs.Held.{value-there}
 use Rattle.limit_laws.proofs.Operations.{priced, priced-weaker, priced-constant, slack-few}
 
 -- ---- kinds of variables
@@ -193,7 +193,7 @@ module _ (vs : List Value) where
 
   box_whole : (k : ValueKind) (d : Operand) (s : Scope) (n : ℕ) → Holds vs n (box_of k d s n).ops → is_whole (value_at vs d.value) ≡ false → is_whole (value_at vs (box_of k d s n).made.value) ≡ false
   unfolding giving done
-  box_whole (Allocatable e rank) d s n h is = whole_by_kind _ _ (value-there vs n what.Boxed s.line (d.value ∷ []) (Allocatable e rank) [] h) refl
+  box_whole (Allocatable e rank) d s n h is = whole_by_kind _ _ (own_value vs n what.Boxed s.line (d.value ∷ []) (Allocatable e rank) [] [] h) refl
   box_whole (Scalar e) d s n h is = is
   box_whole (Place e) d s n h is = is
   box_whole (Declared e shape) d s n h is = is

@@ -1,9 +1,8 @@
 -- The expressions of a DO, ALLOCATE or READ keep the limits.
-use Rattle.std.proofs.Common.{◌≡◌, refl, ap, ◌∙◌, subst, ℕ, suc, ◌+◌, ◌*◌, ◌≤◌, nat_lt, nat_le, Bool, true, false, List, [], ◌∷◌, ◌++◌, length, All, None, arith}
+use Rattle.std.proofs.Common.{◌≡◌, refl, ap, ◌∙◌, subst, ℕ, suc, ◌+◌, ◌*◌, ◌≤◌, nat_lt, Bool, true, false, List, [], ◌∷◌, ◌++◌, length, All, None, arith}
 use Rattle.std.specs.Prelude.{⊤, pos}
 use Rattle.std.specs.List.{flat_map}
-use Rattle.std.proofs.lemmas.Bool.{and_from, ltb-false}
-use Rattle.std.proofs.lemmas.List.{length-append}
+use Rattle.std.proofs.lemmas.Bool.{and_from, ltb-false, le-leb}
 use Rattle.std.proofs.lemmas.List.Elements.{All-head, All-tail}
 use Rattle.ws_base.specs.declared.name.Name.{Name}
 use Rattle.ws_tree.specs.declared.expr.Expr.{Expr}
@@ -42,17 +41,19 @@ use Rattle.small_laws.proofs.NoFaults.{none_first, none_after, not_broken, left_
 use Rattle.kind_laws.specs.Standing.{Knows}
 use Rattle.kind_laws.specs.Found.{Holds, ScopeIsFound}
 use Rattle.kind_laws.specs.Laws.{TypesAreKnown, KindsAreTypes, ValuesAreFound}
-use Rattle.limit_laws.proofs.Costs.{total, heavy, size, reduces, wholes, Costs}
-use Rattle.limit_laws.proofs.Costing.{costs-weaker, spends-done, spends-then}
-use Rattle.limit_laws.proofs.Held.{then-first, then-rest, regions-there, region-there}
+use Rattle.limit_laws.proofs.Costs.{total, size, wholes, Costs}
+use Rattle.limit_laws.proofs.Costing.{costs-weaker, spends-both}
+use Rattle.limit_laws.proofs.Held.{regions-there, region-there}
 use Rattle.limit_laws.proofs.Operations.{priced-costs, priced-constant}
 use Rattle.limit_laws.proofs.Pieces.{parts-append, reductions-append, wholes-append}
 use Rattle.limit_laws.proofs.Passing.{Passing, passing-light, passing-none, passing-append, regions-none, regions-more, passing-op}
 use Rattle.limit_laws.proofs.Counting.{adds-light, size-is}
-use Rattle.limit_laws.proofs.Bounded.{Valued}
+use Rattle.limit_laws.proofs.Bounded.{Valued, Headed}
 use Rattle.limit_laws.proofs.Measured.{count-fits}
-use Rattle.limit_laws.proofs.Scopes.{knows-moved, found-moved}
+use Rattle.kind_laws.proofs.ScopesMoved.{knows-moved, found-moved}
+use Rattle.kind_laws.proofs.Held.{held-first, held-rest}
 use Rattle.limit_laws.proofs.Sides.{side-valued, designator-costs, spends-all_yielded}
+use Rattle.limit_laws.proofs.Steps.{headed-step}
 
 -- ---- what no break of the limits says
 
@@ -98,20 +99,17 @@ pub record Allowed (all : List Piece) : Type 0 where
 pub allowed : (line : ℕ) (all : List Piece) → expressions_faults line all ≡ [] → Allowed all
 allowed line all f = record { parts = omega (arith, few-parts line (all ∷ []) (none_first _ _ f)); fits = one-fits line (all ∷ []) (none_after _ _ f) }
 
-one_longer : (b : Bound) (bs : List Bound) → 1 + length bs ≡ length (b ∷ bs)
+one_longer : (b : Bound) (bs : List Bound) → 18 * 1 + 18 * length bs ≡ 18 * length (b ∷ bs)
 one_longer b bs = omega arith
 
 module _ (vs : List Value) where
-  at_most : (n m : ℕ) → n ≤ m → nat_le n m ≡ true
-  at_most n m h = grind (arith, h)
-
   -- one region of such a statement
   pub region-fits : (ops : List Op) (z : ℕ) (ps all : List Piece) → Costs vs ops z (reductions_in ps) (wholes_in ps) → z ≤ 65536 → AreWithin ps all → Allowed all → expressions_fit vs ops ≡ true
   region-fits ops z ps all c small within ok =
       let a = adds-light vs nothing (order_of ops) c.light in
       let e = counted_all vs nothing (order_of ops) in
       let fits = ok.fits in
-      and_from _ _ (at_most (size_of (order_of ops)) size_limit (omega (arith, size-is (order_of ops), c.size, small)))
+      and_from _ _ (le-leb (size_of (order_of ops)) size_limit (omega (arith, size-is (order_of ops), c.size, small)))
       (count-fits vs (ended e).phases (ended e).temporaries
       (omega (arith, a.phases, c.reductions, c.wholes, within.reductions, within.wholes, fits.phases))
       (omega (arith, a.temporaries, a.masks, a.held, a.pending, c.reductions, c.wholes, within.reductions, within.wholes, fits.temporaries)))
@@ -158,61 +156,32 @@ module _ (types : TypesAreKnown) (kinds : KindsAreTypes) (found : ValuesAreFound
         let m = n + numbers_of (q s n).ops in
         let rest : Lowering ⊤ = in_turn (λ j. reading line (nat_lt 0 j)) (suc k) es in
         passing-append vs a (q s n).ops (rest s m).ops
-        (read-one (nat_lt 0 k) e n (All-head IsDesignator e es i) (none_first _ _ f) (within-first (p.pieces t false false e) (read_pieces t es) all within) (then-first vs q (λ _. rest) s n h))
-        (items-read (suc k) es m (All-tail IsDesignator e es i) (none_after _ _ f) (within-rest (p.pieces t false false e) (read_pieces t es) all within) (then-rest vs q (λ _. rest) s n h))
+        (read-one (nat_lt 0 k) e n (All-head IsDesignator e es i) (none_first _ _ f) (within-first (p.pieces t false false e) (read_pieces t es) all within) (held-first vs q (λ _. rest) s n h))
+        (items-read (suc k) es m (All-tail IsDesignator e es i) (none_after _ _ f) (within-rest (p.pieces t false false e) (read_pieces t es) all within) (held-rest vs q (λ _. rest) s n h))
 
     -- ---- ALLOCATE
 
     -- the bounds of one array: each costs 18 besides its pieces
-    record Bounded (r : Lowered (List ValueId)) (k : ℕ) (ps : List Piece) : Type 0 where
-      light : total heavy r.ops ≤ 0
-      size : total size r.ops + length r.made ≤ 18 * k + 27 * parts_in ps
-      reductions : total reduces r.ops ≤ reductions_in ps
-      wholes : total (wholes vs) r.ops ≤ wholes_in ps
+    abbrev Bounded : Lowered (List ValueId) → ℕ → List Piece → Type 0
+    Bounded r k ps = Headed vs r (18 * k) ps
 
     module _ (c : Scope) where
       upper-bounded : (u : Expr) (n : ℕ) → (let one : Lowering Operand = constant I32 (pos 1) in Valued vs (value u c (n + numbers_of (one c n).ops)) (p.pieces t false false u)) → Bounded (bounds_of (bounds.Upper u) c n) 1 (p.pieces t false false u)
       unfolding bounds_of ◌then◌ done
       upper-bounded u n v =
           let one : Lowering Operand = constant I32 (pos 1) in
-          let m = n + numbers_of (one c n).ops in
-          let x = (one c n).made in
-          let y = (value u c m).made in
           let pu = p.pieces t false false u in
-          let costs = spends-then vs one (λ a. value u then (λ b. done (a.value ∷ b.value ∷ []))) c n 1 0 0 ((8 + 27 * parts_in pu) + 0) (reductions_in pu + 0) (wholes_in pu + 0) (priced-costs vs _ _ _ _ (priced-constant vs I32 (pos 1) c n))
-          (spends-then vs (value u) (λ b. done (x.value ∷ b.value ∷ [])) c m (8 + 27 * parts_in pu) (reductions_in pu) (wholes_in pu) 0 0 0 (priced-costs vs _ _ _ _ v) (spends-done vs (x.value ∷ y.value ∷ []) c (m + numbers_of (value u c m).ops))) in
+          let costs = spends-both vs one (value u) (λ a b. a.value ∷ b.value ∷ []) c n 1 0 0 (8 + 27 * parts_in pu) (reductions_in pu) (wholes_in pu) (priced-costs vs _ _ _ _ (priced-constant vs I32 (pos 1) c n)) (priced-costs vs _ _ _ _ v) in
           record { light = costs.light; size = omega (arith, costs.size); reductions = omega (arith, costs.reductions); wholes = omega (arith, costs.wholes) }
 
       both-bounded : (l u : Expr) (n : ℕ) → Valued vs (value l c n) (p.pieces t false false l) → Valued vs (value u c (n + numbers_of (value l c n).ops)) (p.pieces t false false u) → Bounded (bounds_of (bounds.Both l u) c n) 1 (p.pieces t false false l ++ p.pieces t false false u)
       unfolding bounds_of ◌then◌ done
       both-bounded l u n w v =
-          let m = n + numbers_of (value l c n).ops in
-          let x = (value l c n).made in
-          let y = (value u c m).made in
           let pl = p.pieces t false false l in
           let pu = p.pieces t false false u in
-          let costs = spends-then vs (value l) (λ a. value u then (λ b. done (a.value ∷ b.value ∷ []))) c n (8 + 27 * parts_in pl) (reductions_in pl) (wholes_in pl) ((8 + 27 * parts_in pu) + 0) (reductions_in pu + 0) (wholes_in pu + 0) (priced-costs vs _ _ _ _ w)
-          (spends-then vs (value u) (λ b. done (x.value ∷ b.value ∷ [])) c m (8 + 27 * parts_in pu) (reductions_in pu) (wholes_in pu) 0 0 0 (priced-costs vs _ _ _ _ v) (spends-done vs (x.value ∷ y.value ∷ []) c (m + numbers_of (value u c m).ops))) in
+          let costs = spends-both vs (value l) (value u) (λ a b. a.value ∷ b.value ∷ []) c n (8 + 27 * parts_in pl) (reductions_in pl) (wholes_in pl) (8 + 27 * parts_in pu) (reductions_in pu) (wholes_in pu)
+          (priced-costs vs _ _ _ _ w) (priced-costs vs _ _ _ _ v) in
           record { light = costs.light; size = omega (arith, costs.size, parts-append pl pu); reductions = omega (arith, costs.reductions, reductions-append pl pu); wholes = omega (arith, costs.wholes, wholes-append pl pu) }
-
-      bounded-step : (n j k : ℕ) (q r : Lowering (List ValueId)) (ps qs : List Piece) → Bounded (q c n) j ps → Bounded (r c (n + numbers_of (q c n).ops)) k qs → Bounded ((q then (λ us. r then (λ ws. done (us ++ ws)))) c n) (j + k) (ps ++ qs)
-      unfolding ◌then◌ done
-      bounded-step n j k q r ps qs first rest =
-          let m = n + numbers_of (q c n).ops in
-          let xs = (q c n).made in
-          let ys = (r c m).made in
-          let costs = spends-then vs q (λ us. r then (λ ws. done (us ++ ws))) c n (total size (q c n).ops) (reductions_in ps) (wholes_in ps) (total size (r c m).ops + 0) (reductions_in qs + 0) (wholes_in qs + 0)
-          (record { light = first.light; size = omega arith; reductions = first.reductions; wholes = first.wholes })
-          (spends-then vs r (λ ws. done (xs ++ ws)) c m (total size (r c m).ops) (reductions_in qs) (wholes_in qs) 0 0 0 (record { light = rest.light; size = omega arith; reductions = rest.reductions; wholes = rest.wholes }) (spends-done vs (xs ++ ys) c (m + numbers_of (r c m).ops))) in
-          record {
-            light = costs.light;
-            size = omega (arith, costs.size, first.size, rest.size, length-append xs ys, parts-append ps qs);
-            reductions = omega (arith, costs.reductions, reductions-append ps qs);
-            wholes = omega (arith, costs.wholes, wholes-append ps qs);
-          }
-
-      bounded-more : (r : Lowered (List ValueId)) (j k : ℕ) (ps : List Piece) → j ≡ k → Bounded r j ps → Bounded r k ps
-      bounded-more r j k ps is h = subst (λ i. Bounded r i ps) is h
 
       module _ (knows' : Knows t c) (here' : ScopeIsFound vs c) where
         one-bounded : (b : Bound) (n : ℕ) → IsBound b → allocated_bound_faults t line b ≡ [] → Holds vs n (bounds_of b c n).ops → Bounded (bounds_of b c n) 1 (bound_pieces t b)
@@ -221,15 +190,15 @@ module _ (types : TypesAreKnown) (kinds : KindsAreTypes) (found : ValuesAreFound
             let one : Lowering Operand = constant I32 (pos 1) in
             let m = n + numbers_of (one c n).ops in
             let x = (one c n).made in
-            let h1 = then-rest vs one (λ a. value u then (λ b. done (a.value ∷ b.value ∷ []))) c n h in
-            upper-bounded u n (side-valued types kinds found vs t false false c knows' here' line m u i (none_first _ _ f) (then-first vs (value u) (λ b. done (x.value ∷ b.value ∷ [])) c m h1))
+            let h1 = held-rest vs one (λ a. value u then (λ b. done (a.value ∷ b.value ∷ []))) c n h in
+            upper-bounded u n (side-valued types kinds found vs t false false c knows' here' line m u i (none_first _ _ f) (held-first vs (value u) (λ b. done (x.value ∷ b.value ∷ [])) c m h1))
         one-bounded (bounds.Both l u) n i f h =
             let m = n + numbers_of (value l c n).ops in
             let x = (value l c n).made in
-            let h1 = then-rest vs (value l) (λ a. value u then (λ b. done (a.value ∷ b.value ∷ []))) c n h in
+            let h1 = held-rest vs (value l) (λ a. value u then (λ b. done (a.value ∷ b.value ∷ []))) c n h in
             both-bounded l u n
-            (side-valued types kinds found vs t false false c knows' here' line n l i.0 (none_first _ _ (none_first _ _ f)) (then-first vs (value l) (λ a. value u then (λ b. done (a.value ∷ b.value ∷ []))) c n h))
-            (side-valued types kinds found vs t false false c knows' here' line m u i.1 (none_first _ _ (none_after _ _ f)) (then-first vs (value u) (λ b. done (x.value ∷ b.value ∷ [])) c m h1))
+            (side-valued types kinds found vs t false false c knows' here' line n l i.0 (none_first _ _ (none_first _ _ f)) (held-first vs (value l) (λ a. value u then (λ b. done (a.value ∷ b.value ∷ []))) c n h))
+            (side-valued types kinds found vs t false false c knows' here' line m u i.1 (none_first _ _ (none_after _ _ f)) (held-first vs (value u) (λ b. done (x.value ∷ b.value ∷ [])) c m h1))
         one-bounded bounds.Deferred n i f h = record { light = omega arith; size = omega arith; reductions = omega arith; wholes = omega arith }
 
         all-bounded : (bs : List Bound) (n : ℕ) → All IsBound bs → allocated_bounds_faults t line bs ≡ [] → Holds vs n (all_bounds bs c n).ops → Bounded (all_bounds bs c n) (length bs) (flat_map (bound_pieces t) bs)
@@ -238,11 +207,11 @@ module _ (types : TypesAreKnown) (kinds : KindsAreTypes) (found : ValuesAreFound
         all-bounded (b ∷ bs) n i f h =
             let q : Lowering (List ValueId) = bounds_of b in
             let m = n + numbers_of (q c n).ops in
-            let h1 = then-rest vs q (λ us. all_bounds bs then (λ ws. done (us ++ ws))) c n h in
-            bounded-more (all_bounds (b ∷ bs) c n) (1 + length bs) (length (b ∷ bs)) (flat_map (bound_pieces t) (b ∷ bs)) (one_longer b bs)
-            (bounded-step n 1 (length bs) q (all_bounds bs) (bound_pieces t b) (flat_map (bound_pieces t) bs)
-            (one-bounded b n (All-head IsBound b bs i) (none_first _ _ f) (then-first vs q (λ us. all_bounds bs then (λ ws. done (us ++ ws))) c n h))
-            (all-bounded bs m (All-tail IsBound b bs i) (none_after _ _ f) (then-first vs (all_bounds bs) (λ ws. done ((q c n).made ++ ws)) c m h1)))
+            let h1 = held-rest vs q (λ us. all_bounds bs then (λ ws. done (us ++ ws))) c n h in
+            subst (λ z. Headed vs (all_bounds (b ∷ bs) c n) z (flat_map (bound_pieces t) (b ∷ bs))) (one_longer b bs)
+            (headed-step vs c n q (all_bounds bs) (18 * 1) (18 * length bs) (bound_pieces t b) (flat_map (bound_pieces t) bs)
+            (one-bounded b n (All-head IsBound b bs i) (none_first _ _ f) (held-first vs q (λ us. all_bounds bs then (λ ws. done (us ++ ws))) c n h))
+            (all-bounded bs m (All-tail IsBound b bs i) (none_after _ _ f) (held-first vs (all_bounds bs) (λ ws. done ((q c n).made ++ ws)) c m h1)))
 
     -- the op of one array
     allocated-passes : (also : Bool) (x : Part) (c : Scope) (n : ℕ) → IsSmallPart x → AreWithin (part_pieces t x) all → Bounded (all_bounds x.shape c n) (length x.shape) (part_pieces t x) →
@@ -266,7 +235,7 @@ module _ (types : TypesAreKnown) (kinds : KindsAreTypes) (found : ValuesAreFound
         let ops = (all_yielded (all_bounds x.shape) scope (n + 0 + 0)).ops in
         let held = region-there vs (n + 0) op 0 ops [] (regions-there vs n op line ((declare_of s.names x.name).value ∷ []) None (region_of ops ∷ []) h) in
         allocated-passes also x scope (n + 0 + 0) small within
-        (all-bounded scope (knows-moved t s scope.masked scope.line knows) (found-moved vs s scope.masked scope.line here) x.shape (n + 0 + 0) i.1 (none_after _ _ f) (then-first vs (all_bounds x.shape) (λ ws. acting what.Yield ws) scope (n + 0 + 0) held))
+        (all-bounded scope (knows-moved t s scope.masked scope.line knows) (found-moved vs s scope.masked scope.line here) x.shape (n + 0 + 0) i.1 (none_after _ _ f) (held-first vs (all_bounds x.shape) (λ ws. acting what.Yield ws) scope (n + 0 + 0) held))
 
     pub parts-allocated : (k : ℕ) (xs : List Part) (n : ℕ) → All IsPart xs → All IsSmallPart xs → allocations_faults t line xs ≡ [] → AreWithin (allocate_pieces t xs) all → Holds vs n (in_turn (λ j. allocation line (nat_lt 0 j)) k xs s n).ops → Passing vs a (in_turn (λ j. allocation line (nat_lt 0 j)) k xs s n).ops
     unfolding in_turn done ◌then◌
@@ -276,5 +245,5 @@ module _ (types : TypesAreKnown) (kinds : KindsAreTypes) (found : ValuesAreFound
         let m = n + numbers_of (q s n).ops in
         let rest : Lowering ⊤ = in_turn (λ j. allocation line (nat_lt 0 j)) (suc k) xs in
         passing-append vs a (q s n).ops (rest s m).ops
-        (allocate-one (nat_lt 0 k) x n (All-head IsPart x xs i) (All-head IsSmallPart x xs small) (none_first _ _ f) (within-first (part_pieces t x) (allocate_pieces t xs) all within) (then-first vs q (λ _. rest) s n h))
-        (parts-allocated (suc k) xs m (All-tail IsPart x xs i) (All-tail IsSmallPart x xs small) (none_after _ _ f) (within-rest (part_pieces t x) (allocate_pieces t xs) all within) (then-rest vs q (λ _. rest) s n h))
+        (allocate-one (nat_lt 0 k) x n (All-head IsPart x xs i) (All-head IsSmallPart x xs small) (none_first _ _ f) (within-first (part_pieces t x) (allocate_pieces t xs) all within) (held-first vs q (λ _. rest) s n h))
+        (parts-allocated (suc k) xs m (All-tail IsPart x xs i) (All-tail IsSmallPart x xs small) (none_after _ _ f) (within-rest (part_pieces t x) (allocate_pieces t xs) all within) (held-rest vs q (λ _. rest) s n h))

@@ -1,24 +1,17 @@
 -- The shapes of declared variables are small.
-use Rattle.std.proofs.Common.{◌≡◌, refl, sym, ap, ◌∙◌, ℕ, suc, ◌*◌, ◌≤◌, nat_lt, nat_le, Bool, true, false, List, [], ◌∷◌, ◌++◌, length, map, All, Option, Some, ℤ, pos, arith, if◌then◌else◌}
+use Rattle.std.proofs.Common.{◌≡◌, refl, sym, ap, ◌∙◌, ℕ, suc, ◌*◌, ◌≤◌, nat_lt, nat_le, Bool, true, false, List, [], ◌∷◌, ◌++◌, length, map, All, Option, Some, pos, arith}
 use Rattle.std.proofs.Math.Nat.{mul_assoc}
 use Rattle.std.proofs.lemmas.Bool.{ltb-false, and_from}
 use Rattle.std.proofs.lemmas.List.Elements.{All-nil, All-cons}
-use Rattle.ws_base.specs.declared.op.UnOp.{UnOp}
-use Rattle.ws_base.specs.declared.op.BinOp.{BinOp}
 use Rattle.ws_base.specs.declared.refusal.RefusalKind.TheVariants as refusal
 use Rattle.ws_space.specs.declared.shape.Dim.{Dim}
 use Rattle.ws_space.specs.Shapes.{size, extents_of, shape_of, declared_dim}
 use Rattle.ws_space.specs.WellFormed.{elements}
-use Rattle.ws_tree.specs.declared.expr.Expr.{Expr}
-use Rattle.ws_tree.specs.declared.expr.Expr.TheVariants.{Number, TooWide, TooDeep, Truth, Named, Part', Call', Vector'}
 use Rattle.ws_tree.specs.declared.stmt.Bound.{Bound}
 use Rattle.ws_tree.specs.declared.stmt.Bound.TheVariants as bound
 use Rattle.ws_tree.specs.declared.stmt.Decl.{Decl}
-use Rattle.ws_tree.specs.Trees.{paren, unary, binary}
 use Rattle.ws_types.specs.declared.constant.Constant.{Constant}
-use Rattle.ws_types.specs.declared.constant.Constancy.{Constancy}
-use Rattle.ws_types.specs.declared.constant.Constancy.TheVariants.{Value, NoValue, NotConstant}
-use Rattle.ws_types.specs.Constants.{constant_of, constancy, constant_faults, is_sign, is_arithmetic, signed, joined, value_of}
+use Rattle.ws_types.specs.Constants.{constancy, value_of}
 use Rattle.ws_sema.specs.Declarations.{element_limit, bound_faults, bounds_faults, extent_between, extent_of, times, is_large, is_too_large, shape_faults, decls_faults, with_constant, constants_after}
 use Rattle.hlfir_ops.specs.declared.kinds.Elem.{Elem}
 use Rattle.hlfir_ops.specs.RulesLimits.{is_small, rank_limit}
@@ -26,71 +19,26 @@ use Rattle.hlfir_ops.specs.RulesLimits as limits
 use Rattle.lower_values.specs.declared.names.Variable.{Variable}
 use Rattle.lower_assign.specs.Known.{value_or_zero, elem, bound_dim, declared_shape, variable_kind, kind_of, variable, declares_variable, if_variable, variable_decls, numbered}
 use Rattle.small_laws.proofs.NoFaults.{none_first, none_after, not_broken, impossible, left_false, right_false}
-use Rattle.kind_laws.proofs.ConstantsKnown.{value_after}
+use Rattle.kind_laws.proofs.ConstantsKnown.{value_after, value_at}
+use Rattle.kind_laws.proofs.Extended.{Extends, constancy-extends}
 
 -- ---- a constant expression keeps its value
 
--- what has a value among the first constants has it among the others
-abbrev Later : List Constant → List Constant → Type 0
-Later cs ds = (x : List ℕ) (z : ℤ) → constant_of cs x ≡ Value z → constant_of ds x ≡ Value z
-
-abbrev ValueStays : Constancy → Constancy → Type 0
-ValueStays c d = (z : ℤ) → c ≡ Value z → d ≡ Value z
-
-signed_stays : (op : UnOp) (c d : Constancy) → ValueStays c d → ValueStays (signed op c) (signed op d)
-signed_stays op (Value a) d h z e = ap (signed op) (h a refl) ∙ e
-signed_stays op NoValue d h z e = absurd (cc)
-signed_stays op NotConstant d h z e = absurd (cc)
-
-joined_stays : (op : BinOp) (a b c d : Constancy) → ValueStays a c → ValueStays b d → ValueStays (joined op a b) (joined op c d)
-joined_stays op (Value x) (Value y) c d h g z e = ap (λ k. joined op k d) (h x refl) ∙ (ap (joined op (Value x)) (g y refl) ∙ e)
-joined_stays op (Value x) NoValue c d h g z e = absurd (cc)
-joined_stays op (Value x) NotConstant c d h g z e = absurd (cc)
-joined_stays op NoValue (Value y) c d h g z e = absurd (cc)
-joined_stays op NoValue NoValue c d h g z e = absurd (cc)
-joined_stays op NoValue NotConstant c d h g z e = absurd (cc)
-joined_stays op NotConstant b c d h g z e = absurd (cc)
-
-if_stays : (b : Bool) (c d : Constancy) → ValueStays c d → ValueStays (if b then c else NotConstant) (if b then d else NotConstant)
-if_stays true c d h z e = h z e
-if_stays false c d h z e = e
-
-constancy_stays : (cs ds : List Constant) → Later cs ds → (e : Expr) → ValueStays (constancy cs e) (constancy ds e)
-constancy_stays cs ds h (Number n) z e = e
-constancy_stays cs ds h TooWide z e = e
-constancy_stays cs ds h TooDeep z e = e
-constancy_stays cs ds h (Truth b) z e = e
-constancy_stays cs ds h (Named x) z e = h x z e
-constancy_stays cs ds h (Part' x c subs) z e = e
-constancy_stays cs ds h (Call' w c es) z e = e
-constancy_stays cs ds h (Vector' c es) z e = e
-constancy_stays cs ds h (paren a) z e = constancy_stays cs ds h a z e
-constancy_stays cs ds h (unary op a) z e = if_stays (is_sign op) (signed op (constancy cs a)) (signed op (constancy ds a)) (signed_stays op (constancy cs a) (constancy ds a) (constancy_stays cs ds h a)) z e
-constancy_stays cs ds h (binary op a b) z e =
-    if_stays (is_arithmetic op) (joined op (constancy cs a) (constancy cs b)) (joined op (constancy ds a) (constancy ds b))
-    (joined_stays op (constancy cs a) (constancy cs b) (constancy ds a) (constancy ds b) (constancy_stays cs ds h a) (constancy_stays cs ds h b)) z e
-
-valued : (line : ℕ) (c : Constancy) → constant_faults line c ≡ [] → (z : ℤ) × (c ≡ Value z)
-unfolding constant_faults
-valued line (Value z) f = (z, refl)
-valued line NoValue f = impossible line refusal.OverLimit (none_after _ _ f)
-valued line NotConstant f = impossible line refusal.Unsupported (none_first _ _ f)
-
 -- ---- dimensions
 
-module _ (cs ds : List Constant) (later : Later cs ds) where
+module _ (cs ds : List Constant) (later : Extends cs ds) where
   extent_is : (line : ℕ) (b : Bound) → bound_faults cs line false b ≡ [] → extent_of cs b ≡ Some (bound_dim ds b).extent
   unfolding bound_faults
   extent_is line (bound.Upper u) f =
-      let v = valued line (constancy cs u) (none_first _ _ f) in
-      ap (λ c. extent_between (Some (pos 1)) (value_of c)) v.1 ∙ ap (λ c. let n : Option ℕ = Some (declared_dim (pos 1) (value_or_zero c)).extent in n) (sym (constancy_stays cs ds later u v.0 v.1))
+      let v = value_at line (constancy cs u) (none_first _ _ f) in
+      ap (λ c. extent_between (Some (pos 1)) (value_of c)) v.1 ∙ ap (λ c. let n : Option ℕ = Some (declared_dim (pos 1) (value_or_zero c)).extent in n) (sym (constancy-extends cs ds later u v.0 v.1))
   extent_is line (bound.Both l u) f =
-      let vl = valued line (constancy cs l) (none_first _ _ (none_first _ _ f)) in
-      let vu = valued line (constancy cs u) (none_after _ _ (none_first _ _ f)) in
+      let vl = value_at line (constancy cs l) (none_first _ _ (none_first _ _ f)) in
+      let vu = value_at line (constancy cs u) (none_after _ _ (none_first _ _ f)) in
       ap (λ c. extent_between (value_of c) (value_of (constancy cs u))) vl.1
       ∙ (ap (λ c. extent_between (Some vl.0) (value_of c)) vu.1
-      ∙ (ap (λ c. let n : Option ℕ = Some (declared_dim (value_or_zero c) vu.0).extent in n) (sym (constancy_stays cs ds later l vl.0 vl.1))
-      ∙ ap (λ c. let n : Option ℕ = Some (declared_dim (value_or_zero (constancy ds l)) (value_or_zero c)).extent in n) (sym (constancy_stays cs ds later u vu.0 vu.1))))
+      ∙ (ap (λ c. let n : Option ℕ = Some (declared_dim (value_or_zero c) vu.0).extent in n) (sym (constancy-extends cs ds later l vl.0 vl.1))
+      ∙ ap (λ c. let n : Option ℕ = Some (declared_dim (value_or_zero (constancy ds l)) (value_or_zero c)).extent in n) (sym (constancy-extends cs ds later u vu.0 vu.1))))
   extent_is line bound.Deferred f = impossible line refusal.NotAllocatable f
 
   large_is : (line n : ℕ) (bs : List Bound) → bounds_faults cs line false bs ≡ [] → is_too_large cs (Some n) bs ≡ nat_lt element_limit (n * size (extents_of (map (bound_dim ds) bs)))

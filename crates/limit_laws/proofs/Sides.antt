@@ -25,17 +25,14 @@ use Rattle.small_laws.proofs.NoFaults.{none_first, none_after, impossible}
 use Rattle.kind_laws.specs.Standing.{Knows}
 use Rattle.kind_laws.specs.Found.{Holds, ScopeIsFound}
 use Rattle.kind_laws.specs.Laws.{TypesAreKnown, KindsAreTypes, ValuesAreFound}
+use Rattle.kind_laws.proofs.TypesTold.{no_wide}
+use Rattle.kind_laws.proofs.Held.{held-first}
 use Rattle.limit_laws.proofs.Costs.{Costs}
 use Rattle.limit_laws.proofs.Costing.{Spends, costs-weaker, spends-done, spends-then, spends-acting}
-use Rattle.limit_laws.proofs.Held.{then-first}
 use Rattle.limit_laws.proofs.Operations.{priced-costs}
 use Rattle.limit_laws.proofs.References.{spends-boxed}
 use Rattle.limit_laws.proofs.Bounded.{Valued}
 use Rattle.limit_laws.proofs.Values.{price, price-part}
-
-pub deep_refused : {P : Type 0} (line : ℕ) → wide_faults line ≡ [] → P
-unfolding wide_faults
-deep_refused line f = impossible line refusal.OverLimit f
 
 module _ (vs : List Value) where
   -- the costs of a region that yields one value
@@ -64,12 +61,12 @@ module _ (vs : List Value) where
 
 module _ (types : TypesAreKnown) (kinds : KindsAreTypes) (found : ValuesAreFound) (vs : List Value) (t : List Row) (inside mask : Bool) (s : Scope) (knows : Knows t s) (here : ScopeIsFound vs s) (line n : ℕ) where
   pub side-valued : (e : Expr) → IsSide e → faults t inside line e ≡ [] → Holds vs n (value e s n).ops → Valued vs (value e s n) (p.pieces t inside mask e)
-  side-valued e (inl is) f h = deep_refused line (subst (λ a. faults t inside line a ≡ []) is f)
+  side-valued e (inl is) f h = no_wide line (subst (λ a. faults t inside line a ≡ []) is f)
   side-valued e (inr i) f h = price types kinds found vs t inside mask s knows here line n e i.0 f h
 
   pub side-costs : (e : Expr) → IsSide e → faults t inside line e ≡ [] → Holds vs n (yielded (value e) s n).ops → SideCosts vs (yielded (value e) s n).ops (p.pieces t inside mask e)
   side-costs e i f h =
-      costs-weaker vs _ _ _ _ _ _ _ (spends-yielded vs (value e) s n (8 + 27 * parts_in (p.pieces t inside mask e)) _ _ (priced-costs vs _ _ _ _ (side-valued e i f (then-first vs (value e) (λ x. acting what.Yield (x.value ∷ [])) s n h))))
+      costs-weaker vs _ _ _ _ _ _ _ (spends-yielded vs (value e) s n (8 + 27 * parts_in (p.pieces t inside mask e)) _ _ (priced-costs vs _ _ _ _ (side-valued e i f (held-first vs (value e) (λ x. acting what.Yield (x.value ∷ [])) s n h))))
       (omega arith) (omega arith) (omega arith)
 
   pub designator-spends : (b : Bool) (e : Expr) → IsDesignator e → faults t inside line e ≡ [] → Holds vs n (left_of b e s n).ops → Spends vs (left_of b e) s n (8 + 27 * parts_in (p.pieces t inside mask e)) (reductions_in (p.pieces t inside mask e)) (wholes_in (p.pieces t inside mask e))
@@ -78,12 +75,12 @@ module _ (types : TypesAreKnown) (kinds : KindsAreTypes) (found : ValuesAreFound
       costs-weaker vs _ _ _ _ (8 + 27 * parts_in (p.subs_pieces t inside mask subs)) (reductions_in (p.subs_pieces t inside mask subs)) (wholes_in (p.subs_pieces t inside mask subs))
       (priced-costs vs _ _ _ _ (price-part types kinds found vs t inside mask s knows here line n x subs i.1 i.2 (none_first _ _ (none_first _ _ f)) (none_after _ _ (none_first _ _ f)) (none_after _ _ f) h))
       (omega arith) (omega arith) (omega arith)
-  designator-spends b TooDeep i f h = deep_refused line f
+  designator-spends b TooDeep i f h = no_wide line f
   designator-spends b _ i f h = absurd i
 
   pub designator-costs : (b : Bool) (e : Expr) → IsDesignator e → faults t inside line e ≡ [] → Holds vs n (yielded (left_of b e) s n).ops → SideCosts vs (yielded (left_of b e) s n).ops (p.pieces t inside mask e)
   designator-costs b e i f h =
-      costs-weaker vs _ _ _ _ _ _ _ (spends-yielded vs (left_of b e) s n (8 + 27 * parts_in (p.pieces t inside mask e)) _ _ (designator-spends b e i f (then-first vs (left_of b e) (λ x. acting what.Yield (x.value ∷ [])) s n h)))
+      costs-weaker vs _ _ _ _ _ _ _ (spends-yielded vs (left_of b e) s n (8 + 27 * parts_in (p.pieces t inside mask e)) _ _ (designator-spends b e i f (held-first vs (left_of b e) (λ x. acting what.Yield (x.value ∷ [])) s n h)))
       (omega arith) (omega arith) (omega arith)
 
   pub left-costs : (e : Expr) → IsDesignator e → faults t inside line e ≡ [] → Holds vs n (yielded (left e) s n).ops → SideCosts vs (yielded (left e) s n).ops (p.pieces t inside mask e)

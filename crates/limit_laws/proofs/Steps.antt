@@ -14,6 +14,7 @@ use Rattle.hlfir_ops.specs.declared.what.ValueBinary.{ValueBinary}
 use Rattle.hlfir_ops.specs.Numbers.{numbers_of}
 use Rattle.hlfir_ops.specs.RulesValues.{Value, is_whole, value_at}
 use Rattle.hlfir_ops.specs.RulesLimits.{item_limit}
+use Rattle.hlfir_ops.specs.declared.op.ValueId.{ValueId}
 use Rattle.lower_values.specs.declared.operand.Operand.{Operand}
 use Rattle.lower_values.specs.declared.operand.Subscript.{Subscript}
 use Rattle.lower_values.specs.declared.operand.Subscript.TheVariants.{Range}
@@ -23,12 +24,12 @@ use Rattle.lower_values.specs.Operations.{values_of, binary_operation, in_parent
 use Rattle.lower_values.specs.References.{or_nothing, reference, loaded, subscript_of, sub_values, designated}
 use Rattle.lower_values.specs.Values.{part_of}
 use Rattle.limit_laws.proofs.Costs.{total, size, wholes, wholes_among, one_if, Costs, slack, IsProper, Priced}
-use Rattle.limit_laws.proofs.Costing.{spends-done, spends-then}
+use Rattle.limit_laws.proofs.Costing.{spends-done, spends-then, spends-both}
 use Rattle.limit_laws.proofs.Operations.{priced-weaker, priced-costs, priced-binary, priced-unary, priced-parentheses, priced-joined, slack-few}
 use Rattle.limit_laws.proofs.References.{spends-reference, priced-then, priced-loaded, priced-designated}
 use Rattle.limit_laws.proofs.Pieces.{parts-append, reductions-append, wholes-append, call-counts, subscript-counts}
 use Rattle.limit_laws.proofs.Calls.{priced-call_on, priced-vector}
-use Rattle.limit_laws.proofs.Bounded.{Valued, Listed, Subscripted, Apart, BeforeIsProper, wholes_among-append, one_whole, subscript-one, exactly}
+use Rattle.limit_laws.proofs.Bounded.{Valued, Listed, Subscripted, Apart, BeforeIsProper, wholes_among-append, one_whole, subscript-one, exactly, Headed}
 
 module _ (vs : List Value) (s : Scope) (n : ℕ) where
   pub paren-step : (q : Lowering Operand) (ps : List Piece) → Valued vs (q s n) ps → Valued vs ((q then in_parentheses) s n) ps
@@ -61,6 +62,24 @@ module _ (vs : List Value) (s : Scope) (n : ℕ) where
 
   -- ---- lists
 
+  pub headed-none : let none : Lowering (List ValueId) = done [] in Headed vs (none s n) 0 []
+  unfolding done
+  headed-none = record { light = omega arith; size = omega arith; reductions = omega arith; wholes = omega arith }
+
+  -- one list of values after another
+  pub headed-step : (q r : Lowering (List ValueId)) (y z : ℕ) (ps qs : List Piece) → Headed vs (q s n) y ps → Headed vs (r s (n + numbers_of (q s n).ops)) z qs → Headed vs ((q then (λ us. r then (λ ws. done (us ++ ws)))) s n) (y + z) (ps ++ qs)
+  unfolding ◌then◌ done
+  headed-step q r y z ps qs h g =
+      let m = n + numbers_of (q s n).ops in
+      let c = spends-both vs q r (λ us ws. us ++ ws) s n (total size (q s n).ops) (reductions_in ps) (wholes_in ps) (total size (r s m).ops) (reductions_in qs) (wholes_in qs)
+      (record { light = h.light; size = omega arith; reductions = h.reductions; wholes = h.wholes }) (record { light = g.light; size = omega arith; reductions = g.reductions; wholes = g.wholes }) in
+      record {
+        light = c.light;
+        size = omega (arith, c.size, h.size, g.size, length-append (q s n).made (r s m).made, parts-append ps qs);
+        reductions = omega (arith, c.reductions, reductions-append ps qs);
+        wholes = omega (arith, c.wholes, wholes-append ps qs);
+      }
+
   pub listed-none : Listed vs (done [] s n) []
   unfolding done
   listed-none = record { light = omega arith; size = omega arith; reductions = omega arith; wholes = omega arith }
@@ -69,18 +88,9 @@ module _ (vs : List Value) (s : Scope) (n : ℕ) where
       Listed vs ((q then (λ x. rest then (λ xs. done (x ∷ xs)))) s n) (piece.Part ∷ (ps ++ qs))
   unfolding ◌then◌ done
   listed-step q rest ps qs h g =
-      let m = n + numbers_of (q s n).ops in
-      let x = (q s n).made in
-      let xs = (rest s m).made in
-      let k = m + numbers_of (rest s m).ops in
-      let c = spends-then vs q (λ y. rest then (λ ys. done (y ∷ ys))) s n (total size (q s n).ops) (reductions_in ps) (wholes_in ps) (total size (rest s m).ops + 0) (reductions_in qs + 0) (wholes_in qs + 0) (exactly vs (q s n) _ _ _ h)
-      (spends-then vs rest (λ ys. done (x ∷ ys)) s m (total size (rest s m).ops) (reductions_in qs) (wholes_in qs) 0 0 0 (record { light = g.light; size = omega arith; reductions = g.reductions; wholes = g.wholes }) (spends-done vs (x ∷ xs) s k)) in
-      record {
-        light = c.light;
-        size = omega (arith, c.size, h.size, g.size, parts-append ps qs);
-        reductions = omega (arith, c.reductions, reductions-append ps qs);
-        wholes = omega (arith, c.wholes, wholes-append ps qs);
-      }
+      let c = spends-both vs q rest (λ y ys. y ∷ ys) s n (total size (q s n).ops) (reductions_in ps) (wholes_in ps) (total size (rest s (n + numbers_of (q s n).ops)).ops) (reductions_in qs) (wholes_in qs) (exactly vs (q s n) _ _ _ h)
+      (record { light = g.light; size = omega arith; reductions = g.reductions; wholes = g.wholes }) in
+      record { light = c.light; size = omega (arith, c.size, h.size, g.size, parts-append ps qs); reductions = omega (arith, c.reductions, reductions-append ps qs); wholes = omega (arith, c.wholes, wholes-append ps qs) }
 
   listed-costs : (r : Lowered (List Operand)) (ps : List Piece) → Listed vs r ps → Costs vs r.ops (total size r.ops) (reductions_in ps) (wholes_in ps)
   listed-costs r ps g = record { light = g.light; size = omega arith; reductions = g.reductions; wholes = g.wholes }
@@ -174,10 +184,8 @@ module _ (vs : List Value) (s : Scope) (n : ℕ) where
       let m = n + numbers_of (q s n).ops in
       let x = (q s n).made in
       let xs = (rest s m).made in
-      let k = m + numbers_of (rest s m).ops in
-      let c = spends-then vs q (λ y. rest then (λ ys. done (y ∷ ys))) s n (total size (q s n).ops) (reductions_in ps) (total (wholes vs) (q s n).ops) (total size (rest s m).ops + 0) (reductions_in qs + 0) (total (wholes vs) (rest s m).ops + 0)
-      (record { light = h.light; size = omega arith; reductions = h.reductions; wholes = omega arith })
-      (spends-then vs rest (λ ys. done (x ∷ ys)) s m (total size (rest s m).ops) (reductions_in qs) (total (wholes vs) (rest s m).ops) 0 0 0 (record { light = g.light; size = omega arith; reductions = g.reductions; wholes = omega arith }) (spends-done vs (x ∷ xs) s k)) in
+      let c = spends-both vs q rest (λ y ys. y ∷ ys) s n (total size (q s n).ops) (reductions_in ps) (total (wholes vs) (q s n).ops) (total size (rest s m).ops) (reductions_in qs) (total (wholes vs) (rest s m).ops)
+      (record { light = h.light; size = omega arith; reductions = h.reductions; wholes = omega arith }) (record { light = g.light; size = omega arith; reductions = g.reductions; wholes = omega arith }) in
       record {
         light = c.light;
         size = omega (arith, c.size, h.size, g.size, length-append (sub_values x) (flat_map sub_values xs), parts-append ps qs);

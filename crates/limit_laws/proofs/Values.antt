@@ -41,12 +41,13 @@ use Rattle.small_laws.proofs.NoFaults.{none_first, none_after, allowed}
 use Rattle.kind_laws.specs.Standing.{Knows}
 use Rattle.kind_laws.specs.Found.{Holds, ScopeIsFound}
 use Rattle.kind_laws.specs.Laws.{TypesAreKnown, KindsAreTypes, ValuesAreFound}
+use Rattle.kind_laws.proofs.FormsMade.{some_subs}
+use Rattle.kind_laws.proofs.Held.{held-first, held-rest}
 use Rattle.limit_laws.proofs.Costs.{Priced}
-use Rattle.limit_laws.proofs.Held.{then-first, then-rest}
 use Rattle.limit_laws.proofs.Operations.{priced-weaker, priced-constant}
 use Rattle.limit_laws.proofs.References.{priced-named, priced-inquiry, reference-whole}
 use Rattle.limit_laws.proofs.Pieces.{parts-append, reductions-append, wholes-append}
-use Rattle.limit_laws.proofs.Bounded.{Valued, Listed, Subscripted, Apart, BeforeIsProper, part_variable, some_subs, few_at, few_items, values-length, folded_case, bound-apart, stride-apart}
+use Rattle.limit_laws.proofs.Bounded.{Valued, Listed, Subscripted, Apart, BeforeIsProper, part_variable, few_at, few_items, values-length, folded_case, bound-apart, stride-apart}
 use Rattle.limit_laws.proofs.Steps.{paren-step, unary-step, binary-step, listed-none, listed-step, vector-step, call-step, nested-none, nested-step, one-step, range-step, subs-none, subs-step, part-step, load-step}
 use Rattle.limit_laws.proofs.Wholes.{scalar-apart, whole-known}
 
@@ -77,10 +78,10 @@ module _ (types : TypesAreKnown) (kinds : KindsAreTypes) (found : ValuesAreFound
       let r = (reference x s n).made in
       let var = part_variable line s x (standing_of t x) (how_many subs) (knows x) known number (some_subs subs some) in
       let h' = opened x subs n h in
-      let rest = then-rest vs (reference x) (λ u. subscripts u 1 subs then (λ ss. designated u ss)) s n h' in
+      let rest = held-rest vs (reference x) (λ u. subscripts u 1 subs then (λ ss. designated u ss)) s n h' in
       part-step vs s n x (λ u. subscripts u 1 subs) (p.subs_pieces t inside mask subs)
-      (reference-whole vs x var.variable s n here.variables var.found var.kind (then-first vs (reference x) (λ u. subscripts u 1 subs then (λ ss. designated u ss)) s n h'))
-      (each r m (then-first vs (subscripts r 1 subs) (λ ss. designated r ss) s m rest))
+      (reference-whole vs x var.variable s n here.variables var.found var.kind (held-first vs (reference x) (λ u. subscripts u 1 subs then (λ ss. designated u ss)) s n h'))
+      (each r m (held-first vs (subscripts r 1 subs) (λ ss. designated r ss) s m rest))
 
   one-known : (line n : ℕ) (e : Expr) → IsExpr e → sub_faults t inside line (sub.One e) ≡ [] → Holds vs n (value e s n).ops → Valued vs (value e s n) (p.pieces t inside mask e) →
       Subscripted vs ((value e then (λ x. done (subscript_of x))) s n) (sub_values ((value e then (λ x. done (subscript_of x))) s n).made) (p.sub_pieces t inside mask (sub.One e))
@@ -101,12 +102,12 @@ module _ (types : TypesAreKnown) (kinds : KindsAreTypes) (found : ValuesAreFound
       let k = m + numbers_of (b s m).ops in
       let x = (a s n).made in
       let y = (b s m).made in
-      let rest = then-rest vs a (λ x. b then (λ y. c then (λ z. done (Range x.value y.value z.value)))) s n h in
-      let last = then-rest vs b (λ y. c then (λ z. done (Range x.value y.value z.value))) s m rest in
+      let rest = held-rest vs a (λ x. b then (λ y. c then (λ z. done (Range x.value y.value z.value)))) s n h in
+      let last = held-rest vs b (λ y. c then (λ z. done (Range x.value y.value z.value))) s m rest in
       range-step vs s n a b c (p.held_pieces t inside mask l) (p.held_pieces t inside mask u) (p.held_pieces t inside mask st)
-      (kl n (bound Lower dim r) (λ g. bound-apart vs Lower dim r s n g) (then-first vs a (λ x. b then (λ y. c then (λ z. done (Range x.value y.value z.value)))) s n h))
-      (ku m (bound Upper dim r) (λ g. bound-apart vs Upper dim r s m g) (then-first vs b (λ y. c then (λ z. done (Range x.value y.value z.value))) s m rest))
-      (ks k (constant I32 (pos 1)) (λ g. stride-apart vs s k g) (then-first vs c (λ z. done (Range x.value y.value z.value)) s k last))
+      (kl n (bound Lower dim r) (λ g. bound-apart vs Lower dim r s n g) (held-first vs a (λ x. b then (λ y. c then (λ z. done (Range x.value y.value z.value)))) s n h))
+      (ku m (bound Upper dim r) (λ g. bound-apart vs Upper dim r s m g) (held-first vs b (λ y. c then (λ z. done (Range x.value y.value z.value))) s m rest))
+      (ks k (constant I32 (pos 1)) (λ g. stride-apart vs s k g) (held-first vs c (λ z. done (Range x.value y.value z.value)) s k last))
 
   mutual
     unfolding folded scoped
@@ -120,42 +121,42 @@ module _ (types : TypesAreKnown) (kinds : KindsAreTypes) (found : ValuesAreFound
         folded_case vs (constancy s.names.constants (Named x)) (named x) s n 8 0 0 (omega arith) (λ g. at_least vs _ 4 [] (omega arith) (priced-named vs line x (standing_of t x) s n (knows x) f)) h
     price line n (Part' x c subs) i f h =
         load-step vs s n (part_of x (λ r. subscripts r 1 subs)) (p.subs_pieces t inside mask subs)
-        (part-known line n x subs i.1 (none_first _ _ (none_first _ _ f)) (none_after _ _ f) (λ r k g. price-subs line k r 1 subs i.2 (none_after _ _ (none_first _ _ f)) g) (then-first vs (part_of x (λ r. subscripts r 1 subs)) loaded s n h))
+        (part-known line n x subs i.1 (none_first _ _ (none_first _ _ f)) (none_after _ _ f) (λ r k g. price-subs line k r 1 subs i.2 (none_after _ _ (none_first _ _ f)) g) (held-first vs (part_of x (λ r. subscripts r 1 subs)) loaded s n h))
     price line n (Call' word.Min c es) i f h = nested-valued n word.Min op.Min es (p.all_pieces t inside mask es) (price-all line n op.Min None es tt i.1 (arguments_sound _ line _ _ f) h)
     price line n (Call' word.Max c es) i f h = nested-valued n word.Max op.Max es (p.all_pieces t inside mask es) (price-all line n op.Max None es tt i.1 (arguments_sound _ line _ _ f) h)
     price line n (Call' word.Size c es) i f h = at_least vs _ 4 (p.pieces t inside mask (Call' word.Size c es)) (omega arith) (priced-inquiry vs word.Size (listed es) s n)
     price line n (Call' word.Lbound c es) i f h = at_least vs _ 4 (p.pieces t inside mask (Call' word.Lbound c es)) (omega arith) (priced-inquiry vs word.Lbound (listed es) s n)
     price line n (Call' word.Ubound c es) i f h = at_least vs _ 4 (p.pieces t inside mask (Call' word.Ubound c es)) (omega arith) (priced-inquiry vs word.Ubound (listed es) s n)
     price line n (Call' word.Allocated c es) i f h = at_least vs _ 4 (p.pieces t inside mask (Call' word.Allocated c es)) (omega arith) (priced-inquiry vs word.Allocated (listed es) s n)
-    price line n (Call' word.Abs c es) i f h = call-step vs s n word.Abs (values es) (p.all_pieces t inside mask es) (price-values line n es i.1 (arguments_sound _ line _ _ f) (then-first vs (values es) (call_on word.Abs) s n h))
-    price line n (Call' word.Mod c es) i f h = call-step vs s n word.Mod (values es) (p.all_pieces t inside mask es) (price-values line n es i.1 (arguments_sound _ line _ _ f) (then-first vs (values es) (call_on word.Mod) s n h))
-    price line n (Call' word.Modulo c es) i f h = call-step vs s n word.Modulo (values es) (p.all_pieces t inside mask es) (price-values line n es i.1 (arguments_sound _ line _ _ f) (then-first vs (values es) (call_on word.Modulo) s n h))
-    price line n (Call' word.Merge c es) i f h = call-step vs s n word.Merge (values es) (p.all_pieces t inside mask es) (price-values line n es i.1 (arguments_sound _ line _ _ f) (then-first vs (values es) (call_on word.Merge) s n h))
-    price line n (Call' word.Sum c es) i f h = call-step vs s n word.Sum (values es) (p.all_pieces t inside mask es) (price-values line n es i.1 (arguments_sound _ line _ _ f) (then-first vs (values es) (call_on word.Sum) s n h))
-    price line n (Call' word.Product c es) i f h = call-step vs s n word.Product (values es) (p.all_pieces t inside mask es) (price-values line n es i.1 (arguments_sound _ line _ _ f) (then-first vs (values es) (call_on word.Product) s n h))
-    price line n (Call' word.Minval c es) i f h = call-step vs s n word.Minval (values es) (p.all_pieces t inside mask es) (price-values line n es i.1 (arguments_sound _ line _ _ f) (then-first vs (values es) (call_on word.Minval) s n h))
-    price line n (Call' word.Maxval c es) i f h = call-step vs s n word.Maxval (values es) (p.all_pieces t inside mask es) (price-values line n es i.1 (arguments_sound _ line _ _ f) (then-first vs (values es) (call_on word.Maxval) s n h))
-    price line n (Call' word.Count c es) i f h = call-step vs s n word.Count (values es) (p.all_pieces t inside mask es) (price-values line n es i.1 (arguments_sound _ line _ _ f) (then-first vs (values es) (call_on word.Count) s n h))
-    price line n (Call' word.Any c es) i f h = call-step vs s n word.Any (values es) (p.all_pieces t inside mask es) (price-values line n es i.1 (arguments_sound _ line _ _ f) (then-first vs (values es) (call_on word.Any) s n h))
-    price line n (Call' word.All c es) i f h = call-step vs s n word.All (values es) (p.all_pieces t inside mask es) (price-values line n es i.1 (arguments_sound _ line _ _ f) (then-first vs (values es) (call_on word.All) s n h))
+    price line n (Call' word.Abs c es) i f h = call-step vs s n word.Abs (values es) (p.all_pieces t inside mask es) (price-values line n es i.1 (arguments_sound _ line _ _ f) (held-first vs (values es) (call_on word.Abs) s n h))
+    price line n (Call' word.Mod c es) i f h = call-step vs s n word.Mod (values es) (p.all_pieces t inside mask es) (price-values line n es i.1 (arguments_sound _ line _ _ f) (held-first vs (values es) (call_on word.Mod) s n h))
+    price line n (Call' word.Modulo c es) i f h = call-step vs s n word.Modulo (values es) (p.all_pieces t inside mask es) (price-values line n es i.1 (arguments_sound _ line _ _ f) (held-first vs (values es) (call_on word.Modulo) s n h))
+    price line n (Call' word.Merge c es) i f h = call-step vs s n word.Merge (values es) (p.all_pieces t inside mask es) (price-values line n es i.1 (arguments_sound _ line _ _ f) (held-first vs (values es) (call_on word.Merge) s n h))
+    price line n (Call' word.Sum c es) i f h = call-step vs s n word.Sum (values es) (p.all_pieces t inside mask es) (price-values line n es i.1 (arguments_sound _ line _ _ f) (held-first vs (values es) (call_on word.Sum) s n h))
+    price line n (Call' word.Product c es) i f h = call-step vs s n word.Product (values es) (p.all_pieces t inside mask es) (price-values line n es i.1 (arguments_sound _ line _ _ f) (held-first vs (values es) (call_on word.Product) s n h))
+    price line n (Call' word.Minval c es) i f h = call-step vs s n word.Minval (values es) (p.all_pieces t inside mask es) (price-values line n es i.1 (arguments_sound _ line _ _ f) (held-first vs (values es) (call_on word.Minval) s n h))
+    price line n (Call' word.Maxval c es) i f h = call-step vs s n word.Maxval (values es) (p.all_pieces t inside mask es) (price-values line n es i.1 (arguments_sound _ line _ _ f) (held-first vs (values es) (call_on word.Maxval) s n h))
+    price line n (Call' word.Count c es) i f h = call-step vs s n word.Count (values es) (p.all_pieces t inside mask es) (price-values line n es i.1 (arguments_sound _ line _ _ f) (held-first vs (values es) (call_on word.Count) s n h))
+    price line n (Call' word.Any c es) i f h = call-step vs s n word.Any (values es) (p.all_pieces t inside mask es) (price-values line n es i.1 (arguments_sound _ line _ _ f) (held-first vs (values es) (call_on word.Any) s n h))
+    price line n (Call' word.All c es) i f h = call-step vs s n word.All (values es) (p.all_pieces t inside mask es) (price-values line n es i.1 (arguments_sound _ line _ _ f) (held-first vs (values es) (call_on word.All) s n h))
     price line n (Vector' c es) i f h =
-        vector-step vs s n (values es) (p.all_pieces t inside mask es) (price-values line n es i.1 (none_first _ _ f) (then-first vs (values es) vector s n h))
+        vector-step vs s n (values es) (p.all_pieces t inside mask es) (price-values line n es i.1 (none_first _ _ f) (held-first vs (values es) vector s n h))
         (few_items (values es s n).made (length (listed es)) (values-length es s n) (few_at line inside (length (listed es)) _ (none_after _ _ f)))
     price line n (paren e) i f h =
         folded_case vs (constancy s.names.constants (paren e)) (value e then in_parentheses) s n _ _ _ (omega arith)
-        (λ g. paren-step vs s n (value e) (p.pieces t inside mask e) (price line n e i f (then-first vs (value e) in_parentheses s n g))) h
+        (λ g. paren-step vs s n (value e) (p.pieces t inside mask e) (price line n e i f (held-first vs (value e) in_parentheses s n g))) h
     price line n (unary o e) i f h =
         folded_case vs (constancy s.names.constants (unary o e)) (value e then unary_operation o) s n _ _ _ (omega arith)
-        (λ g. unary-step vs s n o (value e) (p.pieces t inside mask e) (price line n e i (none_first _ _ f) (then-first vs (value e) (unary_operation o) s n g))) h
+        (λ g. unary-step vs s n o (value e) (p.pieces t inside mask e) (price line n e i (none_first _ _ f) (held-first vs (value e) (unary_operation o) s n g))) h
     price line n (binary o a b) i f h =
         folded_case vs (constancy s.names.constants (binary o a b)) (value a then (λ x. value b then (λ y. binary_operation (binary_of o) x y))) s n _ _ _ (omega arith)
         (λ g.
         let m = n + numbers_of (value a s n).ops in
         let x = (value a s n).made in
-        let rest = then-rest vs (value a) (λ z. value b then (λ y. binary_operation (binary_of o) z y)) s n g in
+        let rest = held-rest vs (value a) (λ z. value b then (λ y. binary_operation (binary_of o) z y)) s n g in
         binary-step vs s n (binary_of o) (value a) (value b) (p.pieces t inside mask a) (p.pieces t inside mask b)
-        (price line n a i.0 (none_first _ _ (none_first _ _ f)) (then-first vs (value a) (λ z. value b then (λ y. binary_operation (binary_of o) z y)) s n g))
-        (price line m b i.1 (none_after _ _ (none_first _ _ f)) (then-first vs (value b) (λ y. binary_operation (binary_of o) x y) s m rest))) h
+        (price line n a i.0 (none_first _ _ (none_first _ _ f)) (held-first vs (value a) (λ z. value b then (λ y. binary_operation (binary_of o) z y)) s n g))
+        (price line m b i.1 (none_after _ _ (none_first _ _ f)) (held-first vs (value b) (λ y. binary_operation (binary_of o) x y) s m rest))) h
 
     price-all : {m : Count} (line n : ℕ) (o : ValueBinary) (before : Option Operand) (es : Exprs m) → BeforeIsProper before → AreExprs es → all_faults t inside line es ≡ [] → Holds vs n (nested o before es s n).ops →
         Priced vs (nested o before es s n) (2 + 27 * parts_in (p.all_pieces t inside mask es)) (reductions_in (p.all_pieces t inside mask es)) (wholes_in (p.all_pieces t inside mask es))
@@ -163,10 +164,10 @@ module _ (types : TypesAreKnown) (kinds : KindsAreTypes) (found : ValuesAreFound
     price-all line n o before (more_exprs e es) proper i f h =
         let m = n + numbers_of (value e s n).ops in
         let y = (value e s n).made in
-        let rest = then-rest vs (value e) (λ u. joined o before u then (λ v. nested o (Some v) es)) s n h in
-        let last = then-rest vs (joined o before y) (λ v. nested o (Some v) es) s m rest in
+        let rest = held-rest vs (value e) (λ u. joined o before u then (λ v. nested o (Some v) es)) s n h in
+        let last = held-rest vs (joined o before y) (λ v. nested o (Some v) es) s m rest in
         nested-step vs s n o before (value e) (λ v. nested o (Some v) es) (p.pieces t inside mask e) (p.all_pieces t inside mask es)
-        (price line n e i.0 (none_first _ _ f) (then-first vs (value e) (λ u. joined o before u then (λ v. nested o (Some v) es)) s n h))
+        (price line n e i.0 (none_first _ _ f) (held-first vs (value e) (λ u. joined o before u then (λ v. nested o (Some v) es)) s n h))
         (λ z k good is at. price-all line k o (Some z) es good i.1 (none_after _ _ f)
         (subst (λ (u : Operand). Holds vs k (nested o (Some u) es s k).ops) (sym is) (subst (λ (j : ℕ). Holds vs j (nested o (Some (joined o before y s m).made) es s j).ops) (sym at) last)))
 
@@ -175,10 +176,10 @@ module _ (types : TypesAreKnown) (kinds : KindsAreTypes) (found : ValuesAreFound
     price-values line n (more_exprs e es) i f h =
         let m = n + numbers_of (value e s n).ops in
         let x = (value e s n).made in
-        let rest = then-rest vs (value e) (λ u. values es then (λ xs. done (u ∷ xs))) s n h in
+        let rest = held-rest vs (value e) (λ u. values es then (λ xs. done (u ∷ xs))) s n h in
         listed-step vs s n (value e) (values es) (p.pieces t inside mask e) (p.all_pieces t inside mask es)
-        (price line n e i.0 (none_first _ _ f) (then-first vs (value e) (λ u. values es then (λ xs. done (u ∷ xs))) s n h))
-        (price-values line m es i.1 (none_after _ _ f) (then-first vs (values es) (λ xs. done (x ∷ xs)) s m rest))
+        (price line n e i.0 (none_first _ _ f) (held-first vs (value e) (λ u. values es then (λ xs. done (u ∷ xs))) s n h))
+        (price-values line m es i.1 (none_after _ _ f) (held-first vs (values es) (λ xs. done (x ∷ xs)) s m rest))
 
     price-subs : {m : Count} (line n : ℕ) (r : Operand) (dim : ℕ) (subs : Subs m) → AreSubs subs → subs_faults t inside line subs ≡ [] → Holds vs n (subscripts r dim subs s n).ops →
         Subscripted vs (subscripts r dim subs s n) (flat_map sub_values (subscripts r dim subs s n).made) (p.subs_pieces t inside mask subs)
@@ -186,22 +187,22 @@ module _ (types : TypesAreKnown) (kinds : KindsAreTypes) (found : ValuesAreFound
     price-subs line n r dim (more_subs (sub.One e) xs) i f h =
         let x : Sub = sub.One e in
         let m = n + numbers_of (subscript r dim x s n).ops in
-        let first = then-first vs (subscript r dim x) (λ u. subscripts r (suc dim) xs then (λ us. done (u ∷ us))) s n h in
-        let rest = then-rest vs (subscript r dim x) (λ u. subscripts r (suc dim) xs then (λ us. done (u ∷ us))) s n h in
+        let first = held-first vs (subscript r dim x) (λ u. subscripts r (suc dim) xs then (λ us. done (u ∷ us))) s n h in
+        let rest = held-rest vs (subscript r dim x) (λ u. subscripts r (suc dim) xs then (λ us. done (u ∷ us))) s n h in
         subs-step vs s n (subscript r dim x) (subscripts r (suc dim) xs) (p.sub_pieces t inside mask x) (p.subs_pieces t inside mask xs)
-        (one-known line n e i.0 (none_first _ _ f) (then-first vs (value e) (λ y. done (subscript_of y)) s n first) (price line n e i.0 (none_first _ _ (none_first _ _ f)) (then-first vs (value e) (λ y. done (subscript_of y)) s n first)))
-        (price-subs line m r (suc dim) xs i.1 (none_after _ _ f) (then-first vs (subscripts r (suc dim) xs) (λ us. done ((subscript r dim x s n).made ∷ us)) s m rest))
+        (one-known line n e i.0 (none_first _ _ f) (held-first vs (value e) (λ y. done (subscript_of y)) s n first) (price line n e i.0 (none_first _ _ (none_first _ _ f)) (held-first vs (value e) (λ y. done (subscript_of y)) s n first)))
+        (price-subs line m r (suc dim) xs i.1 (none_after _ _ f) (held-first vs (subscripts r (suc dim) xs) (λ us. done ((subscript r dim x s n).made ∷ us)) s m rest))
     price-subs line n r dim (more_subs (sub.Range' l u st) xs) i f h =
         let x : Sub = sub.Range' l u st in
         let m = n + numbers_of (subscript r dim x s n).ops in
-        let first = then-first vs (subscript r dim x) (λ u. subscripts r (suc dim) xs then (λ us. done (u ∷ us))) s n h in
-        let rest = then-rest vs (subscript r dim x) (λ u. subscripts r (suc dim) xs then (λ us. done (u ∷ us))) s n h in
+        let first = held-first vs (subscript r dim x) (λ u. subscripts r (suc dim) xs then (λ us. done (u ∷ us))) s n h in
+        let rest = held-rest vs (subscript r dim x) (λ u. subscripts r (suc dim) xs then (λ us. done (u ∷ us))) s n h in
         subs-step vs s n (subscript r dim x) (subscripts r (suc dim) xs) (p.sub_pieces t inside mask x) (p.subs_pieces t inside mask xs)
         (range-known n r dim l u st
         (λ k other o g. price-given line k other l i.0 (none_first _ _ (none_first _ _ (none_first _ _ f))) o g)
         (λ k other o g. price-given line k other u i.1 (none_after _ _ (none_first _ _ (none_first _ _ f))) o g)
         (λ k other o g. price-given line k other st i.2 (none_after _ _ (none_first _ _ f)) o g) first)
-        (price-subs line m r (suc dim) xs i.3 (none_after _ _ f) (then-first vs (subscripts r (suc dim) xs) (λ us. done ((subscript r dim x s n).made ∷ us)) s m rest))
+        (price-subs line m r (suc dim) xs i.3 (none_after _ _ f) (held-first vs (subscripts r (suc dim) xs) (λ us. done ((subscript r dim x s n).made ∷ us)) s m rest))
 
     price-given : (line n : ℕ) (other : Lowering Operand) (g : Given) → IsGiven g → given_faults t inside line g ≡ [] → (Holds vs n (other s n).ops → Apart vs (other s n) []) → Holds vs n (given_or other g s n).ops → Apart vs (given_or other g s n) (p.held_pieces t inside mask g)
     price-given line n other absent i f o h = o h

@@ -29,11 +29,12 @@ use Rattle.kind_laws.specs.Standing.{Knows}
 use Rattle.kind_laws.specs.Found.{Holds, ScopeIsFound}
 use Rattle.kind_laws.specs.Laws.{TypesAreKnown, KindsAreTypes, ValuesAreFound}
 use Rattle.limit_laws.proofs.Totals.{order-region}
-use Rattle.limit_laws.proofs.Held.{then-first, then-rest, regions-there, region-there, rest-there}
+use Rattle.limit_laws.proofs.Held.{regions-there, region-there, rest-there}
 use Rattle.limit_laws.proofs.Passing.{passing-light, regions-none, regions-more}
 use Rattle.limit_laws.proofs.Tallying.{pieces_are}
 use Rattle.limit_laws.proofs.Walking.{Inner, first-inner, inner-none, inner-op, first-masked}
-use Rattle.limit_laws.proofs.Scopes.{knows-moved, found-moved}
+use Rattle.kind_laws.proofs.ScopesMoved.{knows-moved, found-moved}
+use Rattle.kind_laws.proofs.Held.{held-first, held-rest}
 use Rattle.limit_laws.proofs.Formed.{IsFormed, AreFormed, AreElsesFormed}
 use Rattle.limit_laws.proofs.Wheres.{StandsIn, BlockStandsIn, ElsesStandIn, assign-first, assign-regions, inner-less, stands-none, stands-more, mask-costs, masked-stands, assign_passes, masked_passes, elsewhere_passes}
 
@@ -111,8 +112,8 @@ module _ (types : TypesAreKnown) (kinds : KindsAreTypes) (found : ValuesAreFound
     block-in t cl cr b (more_stmts line body rest) i f s n a knows here masked low h =
         let m = n + numbers_of (statement line body s n).ops in
         stands-more types kinds found vs a (statement line body s n).ops (statements rest s m).ops (p.where_pieces t false body) (p.block_pieces t false rest) 0 0
-        (body-in t cl cr line b body i.0 (none_first _ _ f) s n a knows here masked low (then-first vs (statement line body) (λ _. statements rest) s n h))
-        (block-in t cl cr b rest i.1 (none_after _ _ f) s m a knows here masked low (then-rest vs (statement line body) (λ _. statements rest) s n h))
+        (body-in t cl cr line b body i.0 (none_first _ _ f) s n a knows here masked low (held-first vs (statement line body) (λ _. statements rest) s n h))
+        (block-in t cl cr b rest i.1 (none_after _ _ f) s m a knows here masked low (held-rest vs (statement line body) (λ _. statements rest) s n h))
 
     pub elses-in : {m : Count} (t : List Row) (line : ℕ) (first : Option ℕ) (b : ℕ) (rest : Elses m) → AreElsesFormed b rest → elses_faults t line first rest ≡ [] → ElsesStandIn types kinds found vs t b rest
     elses-in t line first b end_elses i f s n a knows here masked low h = record { inner = inner-less types kinds found vs [] [] 0 1 (omega arith) (inner-none vs); passing = (stands-none types kinds found vs a).passing }
@@ -120,11 +121,11 @@ module _ (types : TypesAreKnown) (kinds : KindsAreTypes) (found : ValuesAreFound
         let q : Lowering ⊤ = elsewhere own (Some mask) (statements block) in
         let m = n + numbers_of (q s n).ops in
         stands-more types kinds found vs a (q s n).ops (elsewheres es s m).ops (p.mask_pieces t false mask ++ p.block_pieces t false block) (p.elses_pieces t false es) 0 1
-        (else-masked t own b block s n a knows here masked low (block-in t own _ b block i.1 (none_after _ _ (none_first _ _ f))) mask i.0 own (none_first _ _ (none_first _ _ (none_first _ _ f))) (then-first vs q (λ _. elsewheres es) s n h))
-        (elses-in t line first b es i.2 (none_after _ _ f) s m a knows here masked low (then-rest vs q (λ _. elsewheres es) s n h))
+        (else-masked t own b block s n a knows here masked low (block-in t own _ b block i.1 (none_after _ _ (none_first _ _ f))) mask i.0 own (none_first _ _ (none_first _ _ (none_first _ _ f))) (held-first vs q (λ _. elsewheres es) s n h))
+        (elses-in t line first b es i.2 (none_after _ _ f) s m a knows here masked low (held-rest vs q (λ _. elsewheres es) s n h))
     elses-in t line first b (more_elses (Else' own None c block) end_elses) i f s n a knows here masked low h =
         let q : Lowering ⊤ = elsewhere own None (statements block) in
         stands-more types kinds found vs a (q s n).ops [] (p.block_pieces t false block) [] 1 0
-        (else-plain t own b block s n a knows here masked low (block-in t line first b block i.0 (none_first _ _ f)) (then-first vs q (λ _. elsewheres end_elses) s n h))
+        (else-plain t own b block s n a knows here masked low (block-in t line first b block i.0 (none_first _ _ f)) (held-first vs q (λ _. elsewheres end_elses) s n h))
         (stands-none types kinds found vs a)
     elses-in t line first b (more_elses (Else' own None c block) (more_elses e es)) i f s n a knows here masked low h = absurd i.1

@@ -38,7 +38,7 @@ use Rattle.limit_laws.proofs.Tallying.{pieces_are}
 use Rattle.limit_laws.proofs.Walking.{Inner, First, inner-none, inner-more, first-assign, first-masked}
 use Rattle.limit_laws.proofs.Sides.{SideCosts, side-costs, left-costs}
 use Rattle.limit_laws.proofs.Totals.{order-region}
-use Rattle.limit_laws.proofs.Scopes.{knows-moved, found-moved}
+use Rattle.kind_laws.proofs.ScopesMoved.{knows-moved, found-moved}
 
 -- ops inside a WHERE
 pub record StandsIn (vs : List Value) (a : Around) (ops : List Op) (ps : List Piece) (extra : ℕ) : Type 0 where

@@ -36,8 +36,10 @@ use Rattle.small_laws.proofs.NoFaults.{none_first, none_after, not_broken}
 use Rattle.kind_laws.specs.Standing.{Knows}
 use Rattle.kind_laws.specs.Found.{Holds, ScopeIsFound}
 use Rattle.kind_laws.specs.Laws.{TypesAreKnown, KindsAreTypes, ValuesAreFound}
+use Rattle.kind_laws.proofs.TypesKnown.{both_true}
+use Rattle.kind_laws.proofs.Held.{held-first, held-rest}
+use Rattle.kind_laws.proofs.Finding.{own_value}
 use Rattle.limit_laws.proofs.Costs.{IsProper}
-use Rattle.limit_laws.proofs.Held.{then-first, then-rest, value-there}
 use Rattle.limit_laws.proofs.References.{IsVariable, standing-variable, whole_by_kind, boxed-kind}
 
 -- ---- kinds
@@ -120,16 +122,16 @@ in_parentheses-select vs x s n h = parentheses_select vs x.kind x s n refl h
 -- after parentheses or a plus
 enclosed : (vs : List Value) (c : Constancy) (p : Lowering Operand) (s : Scope) (n : ℕ) → (Holds vs n (p s n).ops → Selects vs (p s n).made) → Holds vs n (constant_or c (p then in_parentheses) s n).ops → Selects vs (constant_or c (p then in_parentheses) s n).made
 unfolding giving ◌then◌
-enclosed vs (Value' z) p s n g h = record { reference = refl; whole = whole_by_kind _ _ (value-there vs n (what.Constant z) s.line [] (Scalar I32) [] h) refl }
-enclosed vs NoValue p s n g h = in_parentheses-select vs (p s n).made s (n + numbers_of (p s n).ops) (g (then-first vs p in_parentheses s n h))
-enclosed vs NotConstant p s n g h = in_parentheses-select vs (p s n).made s (n + numbers_of (p s n).ops) (g (then-first vs p in_parentheses s n h))
+enclosed vs (Value' z) p s n g h = record { reference = refl; whole = whole_by_kind _ _ (own_value vs n (what.Constant z) s.line [] (Scalar I32) [] [] h) refl }
+enclosed vs NoValue p s n g h = in_parentheses-select vs (p s n).made s (n + numbers_of (p s n).ops) (g (held-first vs p in_parentheses s n h))
+enclosed vs NotConstant p s n g h = in_parentheses-select vs (p s n).made s (n + numbers_of (p s n).ops) (g (held-first vs p in_parentheses s n h))
 
 vector-selects : (vs : List Value) (p : Lowering (List Operand)) (s : Scope) (n : ℕ) → Holds vs n ((p then vector) s n).ops → Selects vs ((p then vector) s n).made
 unfolding giving ◌then◌ vector
 vector-selects vs p s n h =
     let xs = (p s n).made in
     let m = n + numbers_of (p s n).ops in
-    record { reference = refl; whole = ap is_whole (value-there vs m what.Vector s.line (values_of xs) (Array (first_elem xs) 1) [] (then-rest vs p vector s n h)) }
+    record { reference = refl; whole = ap is_whole (own_value vs m what.Vector s.line (values_of xs) (Array (first_elem xs) 1) [] [] (held-rest vs p vector s n h)) }
 
 -- ---- values of these ranks
 
@@ -144,10 +146,6 @@ array_rank (Section e rank) h g = absurd (false≢true h)
 scalar_rank : (line : ℕ) (ty : Typed) → scalar_faults line (Some ty) ≡ [] → ty.rank ≤ 0
 unfolding scalar_faults
 scalar_rank line ty f = ltb-false 0 ty.rank (not_broken _ _ _ (none_after _ _ f))
-
-both_true : (truth same : Bool) → not (not truth) ≡ false → same ≡ true → (not truth && same) ≡ true
-both_true true same h g = absurd (true≢false h)
-both_true false same h g = g
 
 rank_one : (rank : ℕ) → 0 < rank → nat_lt 1 rank ≡ false → nat_eq rank 1 ≡ true
 rank_one rank above h = let low = ltb-false 1 rank h in let same : rank ≡ 1 = omega arith in ap (λ n. nat_eq n 1) same

@@ -1,24 +1,18 @@
 -- What passes each test keeps all rules.
-use Rattle.std.proofs.Common.{◌≡◌, refl, Bool, true, false, ◌&&◌, List, [], ◌∷◌}
+use Rattle.std.proofs.Common.{◌≡◌, refl, Bool, true, ◌&&◌, List, [], ◌∷◌}
 use Rattle.std.specs.List.{list_all}
+use Rattle.std.proofs.lemmas.Bool.{and_from, and_parts}
 use Rattle.hlfir_ops.specs.declared.op.Op.{out-Op}
 use Rattle.hlfir_ops.specs.RulesPlaces.{Site}
-use Rattle.hlfir_ops.specs.Rules.{Facts, are_defined, operands_fit, result_fits, is_used_once, yields_of, sides_of, realloc_of, where_of, forall_of, lists_fit, declares_fit, limits_fit, keeps}
+use Rattle.hlfir_ops.specs.Rules.{Facts, are_defined, operands_fit, result_fits, is_used_once, yields_of, sides_of, realloc_of, where_of, forall_of, lists_fit, declares_fit, keeps}
 use Rattle.lower_constructs.specs.Sites.{Test, passes}
-
-both_true : (a b : Bool) → a ≡ true → b ≡ true → (a && b) ≡ true
-both_true true b h k = k
-both_true false b h k = h
-
-and_split : (a b : Bool) → (a && b) ≡ true → (a ≡ true) × (b ≡ true)
-and_split true b h = (refl, h)
-and_split false b h = (h, cc)
+use Rattle.limit_laws.specs.Laws.{limits_test}
 
 pub all_both : {A : Type 0} (p q : A → Bool) (xs : List A) → list_all p xs ≡ true → list_all q xs ≡ true → list_all (λ x. p x && q x) xs ≡ true
 all_both p q [] h k = refl
 all_both p q (x ∷ xs) h k =
-    let a = and_split (p x) (list_all p xs) h in let b = and_split (q x) (list_all q xs) k in
-    both_true (p x && q x) (list_all (λ y. p y && q y) xs) (both_true (p x) (q x) a.0 b.0) (all_both p q xs a.1 b.1)
+    let a = and_parts (p x) (list_all p xs) h in let b = and_parts (q x) (list_all q xs) k in
+    and_from (p x && q x) (list_all (λ y. p y && q y) xs) (and_from (p x) (q x) a.0 b.0) (all_both p q xs a.1 b.1)
 
 pub all_true : {A : Type 0} (xs : List A) → list_all (λ x. true) xs ≡ true
 all_true [] = refl
@@ -58,9 +52,6 @@ lists_test f p op = lists_fit p.around.own p.before op
 
 abbrev pub declares_test : Test
 declares_test f p op = declares_fit p.around.own f.values p.before op
-
-abbrev pub limits_test : Test
-limits_test f p op = limits_fit p.around f.values p.before op
 
 module _ (f : Facts) (xs : List Site) where
   abbrev Passed : Test → Type 0

@@ -19,7 +19,7 @@ use Rattle.hlfir_ops.specs.declared.what.ValueBinary.{ValueBinary}
 use Rattle.hlfir_ops.specs.declared.what.What.{What}
 use Rattle.hlfir_ops.specs.declared.what.What.TheVariants as what
 use Rattle.hlfir_ops.specs.declared.op.ValueId.{ValueId}
-use Rattle.hlfir_ops.specs.declared.op.Op.{Op}
+use Rattle.hlfir_ops.specs.declared.op.Op.{Op, Op-F}
 use Rattle.hlfir_ops.specs.declared.op.Region.{Region}
 use Rattle.hlfir_ops.specs.Trees.{op_of}
 use Rattle.hlfir_ops.specs.Numbers.{own_numbers, numbers_of}
@@ -36,14 +36,10 @@ use Rattle.part_laws.proofs.NoVariables.{IsNoBox}
 
 pub record EndsInOp (n : ℕ) (l : Lowered Operand) : Type 0 where
   pub before : List Op
-  pub what : What
-  pub line : ℕ
-  pub operands : List ValueId
-  pub kind : Option ValueKind
-  pub regions : List Region
-  pub ops : l.ops ≡ before ++ op_of what line operands kind regions ∷ []
+  pub last : Op-F Op Region
+  pub ops : l.ops ≡ before ++ op_of last.what last.line last.operands last.kind last.regions ∷ []
   pub number : l.made.value.number ≡ n + numbers_of before
-  pub box : IsNoBox what
+  pub box : IsNoBox last.what
 
 -- or it makes a scalar
 abbrev pub IsPlain : ℕ → Lowered Operand → Type 0
@@ -52,12 +48,8 @@ IsPlain n l = ((rank_of l.made.kind == 0) ≡ true) ⊎ EndsInOp n l
 ends-after : (n : ℕ) (xs : List Op) (l : Lowered Operand) → EndsInOp (n + numbers_of xs) l → EndsInOp n (record { ops = xs ++ l.ops; made = l.made })
 ends-after n xs l h = record {
   before = xs ++ h.before;
-  what = h.what;
-  line = h.line;
-  operands = h.operands;
-  kind = h.kind;
-  regions = h.regions;
-  ops = ap (λ o. xs ++ o) h.ops ∙ sym (append_assoc xs h.before (op_of h.what h.line h.operands h.kind h.regions ∷ []));
+  last = h.last;
+  ops = ap (λ o. xs ++ o) h.ops ∙ sym (append_assoc xs h.before (op_of h.last.what h.last.line h.last.operands h.last.kind h.last.regions ∷ []));
   number = h.number ∙ omega (arith, numbers_of-append xs h.before);
   box = h.box;
 }
@@ -76,7 +68,7 @@ module _ (s : Scope) where
 
   pub plain-giving : (n : ℕ) (w : What) (os : List ValueId) (k : ValueKind) → IsNoBox w → IsPlain n (giving w os k s n)
   unfolding giving
-  plain-giving n w os k h = inr (record { before = []; what = w; line = s.line; operands = os; kind = Some k; regions = []; ops = refl; number = omega arith; box = h })
+  plain-giving n w os k h = inr (record { before = []; last = record { what = w; line = s.line; operands = os; kind = Some k; regions = [] }; ops = refl; number = omega arith; box = h })
 
   -- ---- operations
 
@@ -88,11 +80,13 @@ module _ (s : Scope) where
       by_rank true = inl refl
       by_rank false = inr (record {
         before = [];
-        what = what.Elemental;
-        line = s.line;
-        operands = [];
-        kind = Some (kind.Array e (rank_from 0 xs));
-        regions = regions_from what.Elemental s.line 0 (n + own_numbers (Some (kind.Array e (rank_from 0 xs)))) (element w e xs ∷ []) s;
+        last = record {
+          what = what.Elemental;
+          line = s.line;
+          operands = [];
+          kind = Some (kind.Array e (rank_from 0 xs));
+          regions = regions_from what.Elemental s.line 0 (n + own_numbers (Some (kind.Array e (rank_from 0 xs)))) (element w e xs ∷ []) s;
+        };
         ops = refl;
         number = omega arith;
         box = tt;

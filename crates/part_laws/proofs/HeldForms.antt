@@ -1,12 +1,11 @@
 -- The same of the lowerings of sections and constructors, in parentheses too.
-use Rattle.std.proofs.Common.{◌≡◌, refl, sym, ap, ◌∙◌, subst, inl, inr, ℕ, ◌+◌, ◌==◌, Bool, true, false, if◌then◌else◌, List, [], ◌∷◌, ◌++◌, map, length, Some, Ok, IfOk, arith, append_assoc}
+use Rattle.std.proofs.Common.{◌≡◌, refl, sym, ap, ◌∙◌, subst, inl, inr, ℕ, ◌+◌, ◌==◌, Bool, true, false, if◌then◌else◌, List, [], ◌∷◌, ◌++◌, map, length, Some, Ok, arith, append_assoc}
 use Rattle.std.specs.List.{flat_map}
 use Rattle.std.proofs.lemmas.Bool.{true≢false}
 use Rattle.std.proofs.lemmas.List.{append-nil}
 use Rattle.std.proofs.lemmas.List.Elements.{All-nil, All-cons}
 use Rattle.ws_base.specs.declared.name.Name.{Name}
 use Rattle.ws_base.specs.declared.op.UnOp.TheVariants as unop
-use Rattle.ws_base.specs.Outcomes.{Staged}
 use Rattle.ws_tree.specs.declared.expr.Expr.{Expr}
 use Rattle.ws_tree.specs.declared.expr.Expr.TheVariants.{Part', Vector'}
 use Rattle.ws_tree.specs.Trees.{Subs, Exprs, paren, unary}
@@ -25,7 +24,7 @@ use Rattle.hlfir_ops.specs.Numbers.{numbers_of}
 use Rattle.hlfir_ops.specs.RulesValues.{elem_of}
 use Rattle.hlfir_ops.specs.RulesForms.{section_rank}
 use Rattle.hlfir_ops.proofs.Numbered.{numbers_of-append}
-use Rattle.hlfir_meaning.specs.Environments.{Value, Environment, operand}
+use Rattle.hlfir_meaning.specs.Environments.{Environment, operand}
 use Rattle.hlfir_meaning.specs.Selections.{extents}
 use Rattle.hlfir_meaning.specs.Stage1 as walked
 use Rattle.lower_values.specs.declared.operand.Operand.{Operand}
@@ -40,15 +39,12 @@ use Rattle.part_laws.specs.Parts.{IsOfRankOne}
 use Rattle.part_laws.specs.Selects.{selected_by}
 use Rattle.part_laws.proofs.Held.{IsVectorOf, designator-vector, IsFound}
 use Rattle.part_laws.proofs.Ranks.{selected-rank}
-use Rattle.part_laws.proofs.Walked.{Walked, last-made}
+use Rattle.part_laws.proofs.Walked.{Walked, last-made, of_ok}
 
 -- What was lowered from this number on leaves a scalar or a value that a designator may take, and no declare or box of an array.
 pub record HeldBy (vectors : List ℕ) (n : ℕ) (l : Lowered Operand) : Type 0 where
   pub found : (env after : Environment) (m : ℕ) → Walked vectors n env l.ops m after → IsFound l.made.kind (after l.made.value.number)
   pub unnamed : IsNamed l.made.kind → ⊥
-
-of_ok : (P : Value → Type 0) (r : Staged Value) (v : Value) → IfOk r P → r ≡ Ok v → P v
-of_ok P r v h is = subst (λ q. IfOk q P) is h
 
 module _ (vectors : List ℕ) (s : Scope) where
   held-nothing : (n : ℕ) (l : Lowered Operand) → HeldBy vectors n l → HeldBy vectors n (record { ops = l.ops ++ []; made = l.made })

@@ -20,6 +20,7 @@ use Rattle.hlfir_ops.specs.declared.kinds.ValueKind.TheVariants as kind
 use Rattle.hlfir_ops.specs.Numbers.{numbers_of}
 use Rattle.hlfir_ops.specs.RulesValues.{rank_of}
 use Rattle.hlfir_meaning.specs.Environments.{Environment}
+use Rattle.hlfir_meaning.specs.Stage1.{stage1}
 use Rattle.lower_values.specs.declared.operand.Operand.{Operand}
 use Rattle.lower_values.specs.Scopes.{Scope}
 use Rattle.lower_values.specs.Lowerings.{◌>>=◌ as ◌then◌}
@@ -96,7 +97,7 @@ module _ (vectors : List ℕ) (base : ℕ) (s : Scope) (w : World) (small : HasS
       Results held = Does vectors s n env (part_of x (λ r. subscripts r 1 subs) then loaded) (part_term held) (λ y u m after. Stands base n m after y u)
 
       array_part : IsNamed d.kind → Results (state_of w.vars x)
-      array_part named = goes-weaker vectors n env ((part_of x (λ r. subscripts r 1 subs) then loaded) s n).ops (λ u after. StandsUnnamed base n _ after _ u) (λ u after. Stands base n _ after _ u) (part_term (state_of w.vars x))
+      array_part named = goes-weaker (stage1 vectors) n env ((part_of x (λ r. subscripts r 1 subs) then loaded) s n).ops (λ u after. StandsUnnamed base n _ after _ u) (λ u after. Stands base n _ after _ u) (part_term (state_of w.vars x))
           (λ u after kept unnamed. unnamed.0.0) (does-part_loaded k vectors base s n env w x stands.var g (declares named) subs fit)
 
       by_kind : (kd : ValueKind) (held : VarState) → d.kind ≡ kd → Fits kd held → state_of w.vars x ≡ held → Results held

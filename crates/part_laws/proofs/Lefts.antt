@@ -20,7 +20,7 @@ use Rattle.hlfir_ops.specs.declared.kinds.ValueKind.TheVariants as kind
 use Rattle.hlfir_ops.specs.Numbers.{numbers_of}
 use Rattle.hlfir_ops.specs.RulesValues.{rank_of}
 use Rattle.hlfir_meaning.specs.Environments.{variable, Environment, Yielded, result}
-use Rattle.hlfir_meaning.specs.Stage1.{subscript_numbers}
+use Rattle.hlfir_meaning.specs.Stage1.{subscript_numbers, stage1}
 use Rattle.lower_values.specs.declared.operand.Operand.{Operand}
 use Rattle.lower_values.specs.Scopes.{Scope}
 use Rattle.lower_values.specs.Lowerings.{Lowering, done, scoped}
@@ -67,7 +67,7 @@ module _ (vectors : List ℕ) (base : ℕ) (s : Scope) (n : ℕ) (env : Environm
   IsVariable r a m after = after r.value.number ≡ variable stands.var
 
   boxed_variable : IsNamed d.kind → Does vectors s n env (boxed d) (source.allocated held_now) IsVariable
-  boxed_variable named = goes-weaker vectors n env (boxed d s n).ops (λ a after. Refers base n (n + numbers_of (boxed d s n).ops) after (boxed d s n).made stands.var a) (λ a after. IsVariable (boxed d s n).made a (n + numbers_of (boxed d s n).ops) after) (source.allocated held_now)
+  boxed_variable named = goes-weaker (stage1 vectors) n env (boxed d s n).ops (λ a after. Refers base n (n + numbers_of (boxed d s n).ops) after (boxed d s n).made stands.var a) (λ a after. IsVariable (boxed d s n).made a (n + numbers_of (boxed d s n).ops) after) (source.allocated held_now)
       (λ a after kept h. h.found) (does-boxed vectors base n s n env stands.var d (omega arith) stands.below stands.found held_now stands.holds stands.fits named)
 
   by_kind : (k : ValueKind) (now : VarState) → d.kind ≡ k → held_now ≡ now → Fits k now → Does vectors s n env (boxed d) (held_by (held held_now)) IsVariable
@@ -83,7 +83,7 @@ module _ (vectors : List ℕ) (base : ℕ) (s : Scope) (n : ℕ) (env : Environm
       (subst (λ q. Does vectors s n env (boxed d) (source.allocated q) IsVariable) is (boxed_variable (subst IsNamed (sym named) tt)))
   by_kind (kind.Place e) (state.Scalar z) named is fits =
       subst (λ k. Does vectors s n env (box_of k d) (held_by (held held_now)) IsVariable) (sym named)
-      (subst (λ q. Does vectors s n env (done d) (held_by (held q)) IsVariable) (sym is) (does-done vectors s n env d (record { shape = shape_of []; values = z ∷ [] }) IsVariable stands.found))
+      (subst (λ q. Does vectors s n env (done d) (held_by (held q)) IsVariable) (sym is) (does-done (stage1 vectors) s n env d (record { shape = shape_of []; values = z ∷ [] }) IsVariable stands.found))
   by_kind k now named is fits = absurd fits
 
   pub whole-boxed : Does vectors s n env (boxed d) (held_by (held held_now)) IsVariable
@@ -94,7 +94,7 @@ left-names-reach base s w n env g x stands =
     let p : Lowering Operand = scoped (λ q. whole_left true (declare_of q.names x)) in
     let vectors = subscript_numbers (region_of p s n).ops in
     does-ends s n env p (λ r a m after. after r.value.number ≡ variable stands.var) (λ y a. result y ≡ variable stands.var) (λ a m after h. h) (held_by (held (state_of w.vars x)))
-    (does-scoped vectors s n env (λ q. whole_left true (declare_of q.names x)) (held_by (held (state_of w.vars x))) (λ r a m after. after r.value.number ≡ variable stands.var)
+    (does-scoped (stage1 vectors) s n env (λ q. whole_left true (declare_of q.names x)) (held_by (held (state_of w.vars x))) (λ r a m after. after r.value.number ≡ variable stands.var)
     (whole-boxed vectors base s n env g (declare_of s.names x) (state_of w.vars x) stands))
 
 abbrev IsDeclared : Var → Operand → ⊤ → ℕ → Environment → Type 0
@@ -110,4 +110,4 @@ left-declares-reach base s w n env x stands =
     let vectors = subscript_numbers (region_of p s n).ops in
     let none : Staged ⊤ = Ok tt in
     does-ends s n env p (IsDeclared stands.var) (IsYielded stands.var) (λ u m after h. h) none
-    (does-scoped vectors s n env (λ q. whole_left false (declare_of q.names x)) none (IsDeclared stands.var) (does-done vectors s n env (declare_of s.names x) tt (IsDeclared stands.var) stands.found))
+    (does-scoped (stage1 vectors) s n env (λ q. whole_left false (declare_of q.names x)) none (IsDeclared stands.var) (does-done (stage1 vectors) s n env (declare_of s.names x) tt (IsDeclared stands.var) stands.found))

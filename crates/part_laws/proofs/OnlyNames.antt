@@ -22,7 +22,7 @@ use Rattle.hlfir_ops.specs.declared.what.ValueBinary.{ValueBinary}
 use Rattle.hlfir_ops.specs.declared.what.What.TheVariants as what
 use Rattle.hlfir_ops.specs.Trees.{op_of}
 use Rattle.hlfir_ops.specs.Numbers.{numbers_of}
-use Rattle.hlfir_meaning.specs.Environments.{Value, Environment, result}
+use Rattle.hlfir_meaning.specs.Environments.{Environment, result}
 use Rattle.hlfir_meaning.specs.Stage1.{subscript_numbers, once}
 use Rattle.lower_values.specs.declared.operand.Operand.{Operand}
 use Rattle.lower_values.specs.declared.operand.Subscript.{Subscript}
@@ -44,7 +44,7 @@ use Rattle.part_laws.proofs.Joined.{expressions-stand}
 use Rattle.part_laws.proofs.NoVariables.{once-plain}
 use Rattle.part_laws.proofs.Ready.{named_or_not}
 use Rattle.part_laws.proofs.Regions.{does-ends}
-use Rattle.part_laws.proofs.Walked.{Walked, last-given, once-parts}
+use Rattle.part_laws.proofs.Walked.{Walked, last-given, once-parts, of_ok}
 
 -- ---- by the form of the expression
 
@@ -142,17 +142,14 @@ module _ (base : ℕ) (s : Scope) (w : World) (env : Environment) (agrees : Agre
 
 -- ---- what is left
 
-of_ok : (P : Value → Type 0) (r : Staged Value) (v : Value) → IfOk r P → r ≡ Ok v → P v
-of_ok P r v h is = subst (λ q. IfOk q P) is h
-
 ends_plain : (vectors : List ℕ) (n : ℕ) (env : Environment) (l : Lowered Operand) (m : ℕ) (after : Environment) → EndsInOp n l → Walked vectors n env l.ops m after → IsNoVariable (after l.made.value.number)
 ends_plain vectors n env l m after h walked =
-    let op = op_of h.what h.line h.operands h.kind h.regions in
+    let op = op_of h.last.what h.last.line h.last.operands h.last.kind h.last.regions in
     let given = last-given vectors m after op h.before n env (subst (λ ops. Walked vectors n env ops m after) h.ops walked) in
     subst (λ j. IsNoVariable (after j)) (sym h.number)
     (of_ok IsNoVariable (once vectors (n + numbers_of h.before) given.0 op) (after (n + numbers_of h.before))
-    (subst (λ r. IfOk r IsNoVariable) (sym (once-parts vectors m after h.what h.line h.operands h.kind h.regions (n + numbers_of h.before) given.0))
-    (once-plain h.what h.line h.operands h.kind h.regions vectors (n + numbers_of h.before) given.0 h.box)) given.1)
+    (subst (λ r. IfOk r IsNoVariable) (sym (once-parts vectors m after h.last.what h.last.line h.last.operands h.last.kind h.last.regions (n + numbers_of h.before) given.0))
+    (once-plain h.last.what h.last.line h.last.operands h.last.kind h.last.regions vectors (n + numbers_of h.before) given.0 h.box)) given.1)
 
 module _ (base : ℕ) (s : Scope) (w : World) (small : HasSmallRanks s.names) (n : ℕ) (env : Environment) (g : base ≤ n) (agrees : Agrees s.names base w env) (e : Expr) (no_name : IsName e → ⊥) (sound : IsSound true s e)
     (clear : IsClear (subscript_numbers (region_of (value e) s n).ops) s false n e) where

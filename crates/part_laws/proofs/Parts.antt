@@ -17,6 +17,7 @@ use Rattle.array_meaning.specs.declared.term.Pick.{Pick}
 use Rattle.array_meaning.specs.Stage1 as source
 use Rattle.hlfir_ops.specs.Numbers.{numbers_of}
 use Rattle.hlfir_meaning.specs.Environments.{Environment}
+use Rattle.hlfir_meaning.specs.Stage1.{stage1}
 use Rattle.lower_values.specs.declared.operand.Operand.{Operand}
 use Rattle.lower_values.specs.Scopes.{Scope}
 use Rattle.lower_values.specs.Lowerings.{Lowering, ◌>>=◌ as ◌then◌}
@@ -43,7 +44,7 @@ module _ (k : Count) (vectors : List ℕ) (base : ℕ) (s : Scope) (n : ℕ) (en
     (subs : Subs k) (fit : SubscriptsFit vectors base s n env w x subs) where
   does-reference : Does vectors s n env (reference x) (source.allocated (state_of w.vars x)) (λ r a m after. Refers base n m after r v a)
   unfolding reference
-  does-reference = does-scoped vectors s n env (λ q. boxed (declare_of q.names x)) (source.allocated (state_of w.vars x)) (λ r a m after. Refers base n m after r v a)
+  does-reference = does-scoped (stage1 vectors) s n env (λ q. boxed (declare_of q.names x)) (source.allocated (state_of w.vars x)) (λ r a m after. Refers base n m after r v a)
       (does-boxed vectors base n s n env v (declare_of s.names x) (omega arith) declares.below declares.found (state_of w.vars x) declares.holds declares.fits declares.named)
 
   abbrev r : Operand
@@ -68,7 +69,7 @@ module _ (k : Count) (vectors : List ℕ) (base : ℕ) (s : Scope) (n : ℕ) (en
   selects : (a : ArrayValue) (m : ℕ) (middle : Environment) → m ≡ from → Kept n env middle → IsHeldArray r a m middle →
       Does vectors s m middle (subscripts r 1 subs then designated r) (source.picks w (dims a.shape) subs >>= (λ ps. source.selected a ps >>= (λ qs. Ok (a, qs)))) Selected
   selects a m middle at kept h =
-      does-then vectors s m middle (subscripts r 1 subs) (designated r) (source.picks w (dims a.shape) subs) (λ ps. source.selected a ps >>= (λ qs. Ok (a, qs))) (SelectsLater (dims a.shape)) Selected
+      does-then (stage1 vectors) s m middle (subscripts r 1 subs) (designated r) (source.picks w (dims a.shape) subs) (λ ps. source.selected a ps >>= (λ qs. Ok (a, qs))) (SelectsLater (dims a.shape)) Selected
       (does-subscripts vectors base m env middle s w (omega (arith, g, at)) (λ b low. kept b (omega (arith, low, g))) r v a (own-small base n m r.value.number g (omega (arith, at)) h.refers.own) h.refers.found h.refers.holds
       subs 1 (dims a.shape) (all-from (dims a.shape)) (fit.within a h.held) m middle (omega arith) (λ b low. refl) (subst (λ o. SubscriptsStand vectors base env s w r 1 o subs) (sym at) fit.stand))
       (λ ps o after at2 kept2 later.
@@ -89,7 +90,7 @@ module _ (k : Count) (vectors : List ℕ) (base : ℕ) (s : Scope) (n : ℕ) (en
 
   pub does-part_of : Does vectors s n env (part_of x (λ o. subscripts o 1 subs)) (part_selected w x subs) Selected
   unfolding part_of
-  does-part_of = does-then vectors s n env (reference x) (λ o. subscripts o 1 subs then designated o) (source.allocated (state_of w.vars x))
+  does-part_of = does-then (stage1 vectors) s n env (reference x) (λ o. subscripts o 1 subs then designated o) (source.allocated (state_of w.vars x))
       (λ a. source.picks w (dims a.shape) subs >>= (λ ps. source.selected a ps >>= (λ qs. Ok (a, qs)))) IsHeldArray Selected
       (held_array (state_of w.vars x) (reference x) refl does-reference) selects
 
@@ -109,7 +110,7 @@ module _ (k : Count) (vectors : List ℕ) (base : ℕ) (s : Scope) (n : ℕ) (en
   pub does-part_loaded : Does vectors s n env (part_of x (λ o. subscripts o 1 subs) then loaded) (source.allocated (state_of w.vars x) >>= (λ a. source.picks w (dims a.shape) subs >>= (λ ps. source.designator a ps))) (λ y u m after. StandsUnnamed base n m after y u)
   does-part_loaded =
       subst (λ q. Does vectors s n env (part_of x (λ o. subscripts o 1 subs) then loaded) q (λ y u m after. StandsUnnamed base n m after y u)) (same_part (source.allocated (state_of w.vars x)))
-      (does-then vectors s n env (part_of x (λ o. subscripts o 1 subs)) loaded (part_selected w x subs) (λ b. source.section_or_element (source.picked b.1) b.0 b.1) Selected (λ y u m after. StandsUnnamed base n m after y u)
+      (does-then (stage1 vectors) s n env (part_of x (λ o. subscripts o 1 subs)) loaded (part_selected w x subs) (λ b. source.section_or_element (source.picked b.1) b.0 b.1) Selected (λ y u m after. StandsUnnamed base n m after y u)
       does-part_of
       (λ b m middle at kept is. does-loaded vectors base n s m middle (part_of x (λ o. subscripts o 1 subs) s n).made v b.0 b.1 (omega (arith, at)) is))
 

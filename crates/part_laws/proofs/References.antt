@@ -17,6 +17,7 @@ use Rattle.hlfir_ops.proofs.Numbered.{op_numbers-op_of}
 use Rattle.hlfir_meaning.specs.Environments.{Value, variable, Environment, with_value}
 use Rattle.hlfir_meaning.specs.References as references
 use Rattle.hlfir_meaning.specs.Stage1 as walked
+use Rattle.hlfir_meaning.specs.Stage1.{stage1}
 use Rattle.lower_values.specs.declared.operand.Operand.{Operand}
 use Rattle.lower_values.specs.Scopes.{Scope}
 use Rattle.lower_values.specs.Lowerings.{giving}
@@ -59,7 +60,7 @@ module _ (vectors : List ℕ) (base low : ℕ) (s : Scope) (n : ℕ) (env : Envi
   by_kind : (k : ValueKind) (held : VarState) → d.kind ≡ k → v.state ≡ held → Fits k held → IsNamed k → Does vectors s n env (box_of k d) (source.allocated held) Leaves
   unfolding giving
   by_kind (kind.Declared e shape) (state.Array a) named is h g =
-      does-done vectors s n env d a Leaves (record { found = found; holds = is; own = inl below; fits = subst (λ k. IsArrayOf (rank_of k) a) (sym named) h })
+      does-done (stage1 vectors) s n env d a Leaves (record { found = found; holds = is; own = inl below; fits = subst (λ k. IsArrayOf (rank_of k) a) (sym named) h })
   by_kind (kind.Allocatable e rank) (state.Array a) named is h g = boxed_array e rank a is h
   by_kind (kind.Allocatable e rank) (state.Unallocated r) named is h g = boxes e rank (state.Unallocated r) is
   by_kind (kind.Place e) (state.Scalar z) named is h g = absurd g

@@ -22,6 +22,7 @@ use Rattle.hlfir_meaning.specs.Environments.{variable, part, Environment, with_v
 use Rattle.hlfir_meaning.specs.References.{allocated}
 use Rattle.hlfir_meaning.specs.Selections.{extents, checked}
 use Rattle.hlfir_meaning.specs.Stage1 as walked
+use Rattle.hlfir_meaning.specs.Stage1.{stage1}
 use Rattle.lower_values.specs.declared.operand.Operand.{Operand}
 use Rattle.lower_values.specs.declared.operand.Subscript.{Subscript}
 use Rattle.lower_values.specs.Scopes.{Scope}
@@ -60,25 +61,25 @@ module _ (vectors : List ℕ) (s : Scope) (v : Var) (z : ℤ) (holds : v.state �
   module _ (n : ℕ) (env : Environment) (x : Name) (e : Elem) (named : (declare_of s.names x).kind ≡ kind.Place e) (found : env (declare_of s.names x).value.number ≡ variable v) where
     reference_stays : Does vectors s n env (reference x) (Ok tt) IsScalar
     unfolding reference boxed
-    reference_stays = does-scoped vectors s n env (λ q. boxed (declare_of q.names x)) (Ok tt) IsScalar
-        (subst (λ k. Does vectors s n env (box_of k (declare_of s.names x)) (Ok tt) IsScalar) (sym named) (does-done vectors s n env (declare_of s.names x) tt IsScalar found))
+    reference_stays = does-scoped (stage1 vectors) s n env (λ q. boxed (declare_of q.names x)) (Ok tt) IsScalar
+        (subst (λ k. Does vectors s n env (box_of k (declare_of s.names x)) (Ok tt) IsScalar) (sym named) (does-done (stage1 vectors) s n env (declare_of s.names x) tt IsScalar found))
 
     abbrev nothing : ⊤ → Staged ⊤
     nothing u = trouble Unallocated'
 
     no_subscripts : (m : ℕ) (middle : Environment) (r : Operand) → middle r.value.number ≡ variable v → Does vectors s m middle (subscripts r 1 end_subs then designated r) (let none : Staged ⊤ = trouble Unallocated' in none) Never
     no_subscripts m middle r at =
-        does-then vectors s m middle (subscripts r 1 end_subs) (designated r) (Ok tt) nothing (StaysScalar r) Never
-        (does-done vectors s m middle [] tt (StaysScalar r) at)
+        does-then (stage1 vectors) s m middle (subscripts r 1 end_subs) (designated r) (Ok tt) nothing (StaysScalar r) Never
+        (does-done (stage1 vectors) s m middle [] tt (StaysScalar r) at)
         (λ u k after _ kept still. designator_faults k after r (subscripts r 1 end_subs s m).made still)
 
     none_faults : Does vectors s n env (part_of x (λ r. subscripts r 1 end_subs)) (let none : Staged ⊤ = trouble Unallocated' in none) Never
     unfolding part_of
-    none_faults = does-then vectors s n env (reference x) (λ r. subscripts r 1 end_subs then designated r) (Ok tt) nothing IsScalar Never reference_stays
+    none_faults = does-then (stage1 vectors) s n env (reference x) (λ r. subscripts r 1 end_subs then designated r) (Ok tt) nothing IsScalar Never reference_stays
         (λ u m middle at kept still. no_subscripts m middle (reference x s n).made still)
 
     -- with any more ops after it
     pub scalar-faults : {A B : Type 0} {k : _} (subs : Subs k) → how_many subs ≡ 0 → (q : Operand → Lowering A) (Q : A → B → ℕ → Environment → Type 0) →
         Does vectors s n env (part_of x (λ r. subscripts r 1 subs) then q) (trouble Unallocated') Q
-    scalar-faults end_subs few q Q = does-then vectors s n env (part_of x (λ r. subscripts r 1 end_subs)) q (let none : Staged ⊤ = trouble Unallocated' in none) (λ u. trouble Unallocated') Never Q none_faults (λ u m middle at kept never. absurd never)
+    scalar-faults end_subs few q Q = does-then (stage1 vectors) s n env (part_of x (λ r. subscripts r 1 end_subs)) q (let none : Staged ⊤ = trouble Unallocated' in none) (λ u. trouble Unallocated') Never Q none_faults (λ u m middle at kept never. absurd never)
     scalar-faults (more_subs y ys) few q Q = absurd (omega (arith, few))

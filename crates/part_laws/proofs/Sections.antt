@@ -22,6 +22,7 @@ use Rattle.hlfir_meaning.specs.Places.{column_at}
 use Rattle.hlfir_meaning.specs.Selections.{array_operand, extents}
 use Rattle.hlfir_meaning.specs.Stage1 as walked
 use Rattle.hlfir_meaning.specs.Stage2.{done}
+use Rattle.hlfir_meaning.specs.Stage1.{stage1}
 use Rattle.lower_values.specs.declared.operand.Operand.{Operand}
 use Rattle.lower_values.specs.declared.operand.Subscript.{Subscript}
 use Rattle.lower_values.specs.Scopes.{Scope}
@@ -32,6 +33,7 @@ use Rattle.value_laws.specs.Variables.{IsNamed, IsWholeWhereNamed}
 use Rattle.value_laws.proofs.Ordered.{ordered-one}
 use Rattle.value_laws.proofs.Walking.{with_value-here, with_value-other, with_value-after, does-done, does-then}
 use Rattle.value_laws.proofs.Scalars.{does-scalar}
+use Rattle.value_laws.proofs.Wholes.{same_operand}
 use Rattle.part_laws.specs.Selects.{Selects, selected_by}
 use Rattle.part_laws.specs.Parts.{Refers, IsPart, IsHeld, IsOfRankOne, HasOneDimension, StandsUnnamed}
 use Rattle.part_laws.proofs.Selected.{picked-row, same-shapes, HasNone, same-only, same-elements}
@@ -49,10 +51,6 @@ one-gives low high n at env work (Ok xs) l h is = (
 one-gives low high n at env work (Err t) l h is = ap (λ q. q >>= (λ ys. let after : Staged Environment = Ok (with_value n (column ys) env) in after)) is
 
 -- ---- sections
-
-pub same_operand : (e : Extents) → array_operand e ≡ later.array_operand e
-same_operand [] = refl
-same_operand (n ∷ ns) = refl
 
 more_than_none : (e : Elem) (m : ℕ) (ms : Extents) → part_kind e (length (m ∷ ms)) ≡ kind.Section e (length (m ∷ ms))
 more_than_none e m ms = let some : (length (m ∷ ms) == 0) ≡ false = grind arith in ap (λ b. if b then kind.Place e else kind.Section e (length (m ∷ ms))) some
@@ -113,7 +111,7 @@ module _ (vectors : List ℕ) (base low : ℕ) (s : Scope) (n : ℕ) (env : Envi
     by_rank e (m ∷ ms) at named =
         let section = named ∙ more_than_none e m ms in
         subst (λ k. Does vectors s n env (load_of k x) (source.section_or_element (m ∷ ms) a qs) Leaves) (sym section)
-        (does-done vectors s n env x (term.Section a qs) Leaves (
+        (does-done (stage1 vectors) s n env x (term.Section a qs) Leaves (
           (
             section-stands base low n env x v a qs is e (length (m ∷ ms)) section (grind arith),
             (subst IsHeld (sym is.found) tt, λ few. section-dimension a qs m ms at (subst (λ k. rank_of k ≤ 1) section few)),
@@ -129,7 +127,7 @@ pub does-designator : (vectors : List ℕ) (base low : ℕ) (s : Scope) (n : ℕ
     (ss : List Subscript) (ps : List Pick) → Selects (dims a.shape) (selected_by env ss) ps →
     Does vectors s n env (designated r ss then loaded) (source.designator a ps) (λ y u m after. StandsUnnamed base low m after y u)
 does-designator vectors base low s n env r v a l refers ss ps h =
-    does-then vectors s n env (designated r ss) loaded (source.selected a ps) (λ qs. source.section_or_element (source.picked qs) a qs)
+    does-then (stage1 vectors) s n env (designated r ss) loaded (source.selected a ps) (λ qs. source.section_or_element (source.picked qs) a qs)
     (λ x qs m after. IsPart low m after x v a qs) (λ y u m after. StandsUnnamed base low m after y u)
     (does-designated vectors base low s n env r v a l refers ss ps h)
     (λ qs m middle at kept is. does-loaded vectors base low s m middle (designated r ss s n).made v a qs (omega (arith, at, l)) is)

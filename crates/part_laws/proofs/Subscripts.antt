@@ -18,6 +18,7 @@ use Rattle.array_meaning.specs.Stage1 as source
 use Rattle.hlfir_ops.specs.Numbers.{numbers_of}
 use Rattle.hlfir_ops.specs.RulesValues.{rank_of}
 use Rattle.hlfir_meaning.specs.Environments.{variable, Environment}
+use Rattle.hlfir_meaning.specs.Stage1.{stage1}
 use Rattle.lower_values.specs.declared.operand.Operand.{Operand}
 use Rattle.lower_values.specs.Scopes.{Scope}
 use Rattle.lower_values.specs.Lowerings.{Lowering, done, ◌>>=◌ as ◌then◌}
@@ -70,9 +71,9 @@ module _ (vectors : List ℕ) (base : ℕ) (s : Scope) (n : ℕ) (env : Environm
       Does vectors s n env (p then (λ x. done (subscript_of x))) (r >>= source.subscript b) Adds
   does-value p b r few h =
       subst (λ q. Does vectors s n env (p then (λ x. done (subscript_of x))) q Adds) (after_ready b r)
-      (does-then vectors s n env p (λ x. done (subscript_of x)) (r >>= ready b) (λ t. Ok (pick_of t)) (λ x t m after. Adds (subscript_of x) (pick_of t) m after) Adds
+      (does-then (stage1 vectors) s n env p (λ x. done (subscript_of x)) (r >>= ready b) (λ t. Ok (pick_of t)) (λ x t m after. Adds (subscript_of x) (pick_of t) m after) Adds
       (taken_adds p (r >>= ready b) few h)
-      (λ t m middle at kept adds. does-done vectors s m middle (subscript_of (p s n).made) (pick_of t) Adds adds))
+      (λ t m middle at kept adds. does-done (stage1 vectors) s m middle (subscript_of (p s n).made) (pick_of t) Adds adds))
 
 -- ---- all of them
 
@@ -86,16 +87,16 @@ module _ (vectors : List ℕ) (base from : ℕ) (start here : Environment) (s : 
 
   pub does-subscripts : {k : _} (xs : Subs k) (dim : ℕ) (ds : List Dim) → AreFrom (dims a.shape) dim ds → AreWithin xs ds → (n : ℕ) (env : Environment) → from ≤ n → Kept from here env → SubscriptsStand vectors base start s w r dim n xs →
       Does vectors s n env (subscripts r dim xs) (source.picks w ds xs) (SelectsLater ds)
-  does-subscripts end_subs dim ds are within n env l kept h = does-done vectors s n env [] [] (SelectsLater ds) (λ rho later. tt)
+  does-subscripts end_subs dim ds are within n env l kept h = does-done (stage1 vectors) s n env [] [] (SelectsLater ds) (λ rho later. tt)
   does-subscripts (more_subs x xs) dim [] are within n env l kept h = absurd within
   does-subscripts (more_subs x xs) dim (d ∷ ds) are within n env l kept h =
-      does-then vectors s n env (subscript r dim x) (λ y. subscripts r (suc dim) xs then (λ ys. done (y ∷ ys))) (source.one_pick w d x) (λ p. source.picks w ds xs >>= (λ ps. Ok (p ∷ ps))) Adds (SelectsLater (d ∷ ds))
+      does-then (stage1 vectors) s n env (subscript r dim x) (λ y. subscripts r (suc dim) xs then (λ ys. done (y ∷ ys))) (source.one_pick w d x) (λ p. source.picks w ds xs >>= (λ ps. Ok (p ∷ ps))) Adds (SelectsLater (d ∷ ds))
       (does-subscript x dim d are.0 n env l kept h.0)
       (λ p m middle at1 kept1 adds.
       let y = (subscript r dim x s n).made in
-      does-then vectors s m middle (subscripts r (suc dim) xs) (λ ys. done (y ∷ ys)) (source.picks w ds xs) (λ ps. Ok (p ∷ ps)) (SelectsLater ds) (SelectsLater (d ∷ ds))
+      does-then (stage1 vectors) s m middle (subscripts r (suc dim) xs) (λ ys. done (y ∷ ys)) (source.picks w ds xs) (λ ps. Ok (p ∷ ps)) (SelectsLater ds) (SelectsLater (d ∷ ds))
       (does-subscripts xs (suc dim) ds are.1 within m middle (omega (arith, at1, l)) (λ b low. kept1 b (omega (arith, low, l)) ∙ kept b low) (subst (λ o. SubscriptsStand vectors base start s w r (suc dim) o xs) (sym at1) h.1))
       (λ ps o after at2 kept2 rest.
       let ys = (subscripts r (suc dim) xs s m).made in
-      does-done vectors s o after (y ∷ ys) (p ∷ ps) (SelectsLater (d ∷ ds))
+      does-done (stage1 vectors) s o after (y ∷ ys) (p ∷ ps) (SelectsLater (d ∷ ds))
       (λ rho later. adds rho (λ b low. later b (omega (arith, low, at2)) ∙ kept2 b low) d ds ys ps (rest rho later))))

@@ -19,13 +19,14 @@ use Rattle.hlfir_ops.specs.declared.kinds.ValueKind.TheVariants as kind
 use Rattle.hlfir_ops.specs.declared.op.ValueId.{ValueId}
 use Rattle.hlfir_ops.specs.RulesValues.{rank_of}
 use Rattle.hlfir_meaning.specs.Environments.{Value, variable, Environment}
+use Rattle.hlfir_meaning.specs.Stage1.{stage1}
 use Rattle.lower_values.specs.declared.operand.Operand.{Operand}
 use Rattle.lower_values.specs.Scopes.{Scope}
 use Rattle.lower_values.specs.Lowerings.{Lowering, done, giving, ◌>>=◌ as ◌then◌}
 use Rattle.lower_values.specs.References.{boxed, loaded}
 use Rattle.value_laws.specs.Standing.{Does, Stands, StandsSettled}
 use Rattle.value_laws.specs.Variables.{IsArrayOf, Fits, IsWhole, IsNamed, IsWholeWhereNamed}
-use Rattle.value_laws.proofs.Names.{whole_operands, does-variable}
+use Rattle.value_laws.proofs.Names.{whole_operands, does-variable, named_by}
 use Rattle.value_laws.proofs.Walking.{goes-weaker}
 use Rattle.part_laws.specs.Parts.{IsHeld, IsOfRankOne, HasOneDimension, IsTaken, StandsTaken}
 
@@ -71,21 +72,18 @@ whole-taken base low high env x t named h = (h, named_taken x.kind (env x.value.
 
 module _ (vectors : List ℕ) (base low : ℕ) (s : Scope) (n : ℕ) (env : Environment) (p : Lowering Operand) (r : Staged Term) where
   does_named : IsNamed (p s n).made.kind → Does vectors s n env p r (λ x t m after. Stands base low m after x t) → Does vectors s n env p r (λ x t m after. StandsTaken base low m after x t)
-  does_named named h = goes-weaker vectors n env (p s n).ops (λ t after. Stands base low _ after (p s n).made t) (λ t after. StandsTaken base low _ after (p s n).made t) r
+  does_named named h = goes-weaker (stage1 vectors) n env (p s n).ops (λ t after. Stands base low _ after (p s n).made t) (λ t after. StandsTaken base low _ after (p s n).made t) r
       (λ t after kept is. whole-taken base low _ after (p s n).made t named is) h
 
 module _ (vectors : List ℕ) (base low : ℕ) (s : Scope) (n : ℕ) (env : Environment) (v : Var) (id : ValueId) (g : base ≤ low) (l : low ≤ n) (declared : id.number < base) (found : env id.number ≡ variable v) where
-  abbrev named_by : ValueKind → Lowering Operand
-  named_by k = boxed (record { value = id; kind = k }) then loaded
-
   abbrev Leaves : Operand → Term → ℕ → Environment → Type 0
   Leaves x t m after = StandsTaken base low m after x t
 
-  pub does-variable_taken : (k : ValueKind) (held : VarState) → v.state ≡ held → Fits k held → Does vectors s n env (named_by k) (source.variable held) Leaves
+  pub does-variable_taken : (k : ValueKind) (held : VarState) → v.state ≡ held → Fits k held → Does vectors s n env (named_by id k) (source.variable held) Leaves
   unfolding boxed loaded done giving ◌then◌
   does-variable_taken (kind.Place e) (state.Scalar z) is h = let d = does-variable vectors base low s n env v id g l declared found (kind.Place e) (state.Scalar z) is h in (d.0, d.1, (d.2, tt))
   does-variable_taken (kind.Declared e shape) held is h =
-      does_named vectors base low s n env (named_by (kind.Declared e shape)) (source.variable held) tt (does-variable vectors base low s n env v id g l declared found (kind.Declared e shape) held is h)
+      does_named vectors base low s n env (named_by id (kind.Declared e shape)) (source.variable held) tt (does-variable vectors base low s n env v id g l declared found (kind.Declared e shape) held is h)
   does-variable_taken (kind.Allocatable e rank) held is h =
-      does_named vectors base low s n env (named_by (kind.Allocatable e rank)) (source.variable held) tt (does-variable vectors base low s n env v id g l declared found (kind.Allocatable e rank) held is h)
+      does_named vectors base low s n env (named_by id (kind.Allocatable e rank)) (source.variable held) tt (does-variable vectors base low s n env v id g l declared found (kind.Allocatable e rank) held is h)
   does-variable_taken k held is h = absurd h

@@ -1,50 +1,14 @@
 -- The targets of a whole array are the places themselves.
-use Rattle.std.proofs.Common.{◌≡◌, refl, ap, ◌∙◌, subst, ℕ, ◌<◌, ◌==◌, false, List, [], ◌∷◌, map, All, Ok, ℤ}
-use Rattle.std.specs.Prelude.{◌/◌}
-use Rattle.std.proofs.lemmas.List.Elements.{All-head, All-tail}
-use Rattle.ws_base.specs.Outcomes.{Staged, ◌>>=◌, joined, each, rows, pair_up}
-use Rattle.ws_space.specs.declared.shape.Dim.{Dim}
+use Rattle.std.proofs.Common.{◌≡◌, subst, ℕ, ◌==◌, false, List, [], ◌∷◌, Ok}
 use Rattle.ws_space.specs.declared.state.ArrayValue.{ArrayValue}
-use Rattle.ws_space.specs.Shapes.{size, dims, extents_of, place}
-use Rattle.ws_space.specs.Sections.{beyond, full_column, places_at}
-use Rattle.ws_space.proofs.Places.{element_at, place-element_at}
-use Rattle.array_meaning.specs.declared.term.Pick.TheVariants as pick
-use Rattle.array_meaning.specs.declared.term.Pick.TheBlock.{hidden-the_row-Pick-0}
-use Rattle.array_meaning.specs.Terms.{terms_open}
+use Rattle.ws_space.specs.Shapes.{dims, extents_of}
 use Rattle.array_meaning.specs.Stage1.{whole_array}
-use Rattle.array_meaning.specs.Stage2.{operands, columns, targets}
+use Rattle.array_meaning.specs.Stage2.{operands, targets}
 use Rattle.value_laws.specs.Standing.{AreIn}
 use Rattle.value_laws.proofs.Names.{whole_operands, some_take, in_shape}
-
-full_columns : List Dim → List ℕ → List (List ℤ)
-full_columns [] at = []
-full_columns (d ∷ ds) at = full_column d at ∷ full_columns ds (beyond d.extent at)
-
-columns-full : (ds : List Dim) (at : List ℕ) → columns (hidden-the_row-Pick-0 (map pick.Full ds)) at ≡ Ok (full_columns ds at)
-unfolding terms_open full_columns
-columns-full [] at = refl
-columns-full (d ∷ ds) at = ap (λ r. r >>= (λ rest. let cs : Staged (List (List ℤ)) = Ok (full_column d at ∷ rest) in cs)) (columns-full ds (beyond d.extent at))
-
-rows-none : (ds : List Dim) → (let none : List ℕ = [] in rows none (full_columns ds [])) ≡ []
-unfolding full_columns
-rows-none [] = refl
-rows-none (d ∷ ds) = refl
-
-rows-full : (ds : List Dim) (x : ℕ) (xs : List ℕ) (p : ℕ) (ps : List ℕ) → rows (x ∷ xs) (full_columns ds (p ∷ ps)) ≡ element_at ds p ∷ rows xs (full_columns ds ps)
-unfolding full_columns
-rows-full [] x xs p ps = refl
-rows-full (d ∷ ds) x xs p ps = ap (pair_up (full_column d (p ∷ ps))) (rows-full ds x xs (p / d.extent) (beyond d.extent ps))
-
-each-place : (ds : List Dim) (at : List ℕ) → All (λ p. p < size (extents_of ds)) at → each (place ds) (rows at (full_columns ds at)) ≡ Ok at
-each-place ds [] h = ap (each (place ds)) (rows-none ds)
-each-place ds (p ∷ ps) h =
-    ap (each (place ds)) (rows-full ds p ps p ps)
-    ∙ (ap (λ y. joined y (each (place ds) (rows ps (full_columns ds ps)))) (place-element_at ds p (All-head (λ q. q < size (extents_of ds)) p ps h))
-    ∙ ap (joined (Ok p)) (each-place ds ps (All-tail (λ q. q < size (extents_of ds)) p ps h)))
+use Rattle.value_laws.proofs.Wholes as wholes
 
 pub whole-targets : (a : ArrayValue) → (a.shape.rank == 0) ≡ false → (at : List ℕ) → AreIn at (operands (whole_array a)) → targets (whole_array a) at ≡ Ok at
-unfolding terms_open
 whole-targets a ranked at is =
     let some = some_take a.shape.rank a.shape.d1 (a.shape.d2 ∷ a.shape.d3 ∷ []) ranked in
-    let places = in_shape at (extents_of (dims a.shape)) some (subst (AreIn at) (whole_operands a) is) in
-    ap (λ r. r >>= places_at a at) (columns-full (dims a.shape) at) ∙ each-place (dims a.shape) at places
+    wholes.whole-targets a at (in_shape at (extents_of (dims a.shape)) some (subst (AreIn at) (whole_operands a) is))

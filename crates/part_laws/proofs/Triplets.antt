@@ -27,6 +27,7 @@ use Rattle.hlfir_ops.specs.RulesValues.{rank_of}
 use Rattle.hlfir_meaning.specs.Environments.{variable, Environment, scalar_in, state_in}
 use Rattle.hlfir_meaning.specs.References.{allocated, bound_value, inquired}
 use Rattle.hlfir_meaning.specs.Stage1 as walked
+use Rattle.hlfir_meaning.specs.Stage1.{stage1}
 use Rattle.lower_values.specs.declared.operand.Operand.{Operand}
 use Rattle.lower_values.specs.declared.operand.Subscript.{Subscript}
 use Rattle.lower_values.specs.declared.operand.Subscript.TheVariants.{Range}
@@ -122,10 +123,10 @@ module _ (vectors : List ℕ) (base from : ℕ) (start here : Environment) (s : 
       last_part : (m k : ℕ) (middle after : Environment) (x y : Operand) (i j : ℤ) → m ≡ n + numbers_of (lower s n).ops → k ≡ m + numbers_of (upper s m).ops → Kept from here after → IsNumber x i k after → IsNumber y j k after →
           Does vectors s k after (stride then (λ z. done (Range x.value y.value z.value))) (source.end w (Ok (pos 1)) t >>= (λ c. Ok (pick_by i j c))) Adds
       last_part m k middle after x y i j at1 at2 kept' hx hy =
-          does-then vectors s k after stride (λ z. done (Range x.value y.value z.value)) (source.end w (Ok (pos 1)) t) (λ c. Ok (pick_by i j c)) IsNumber Adds
+          does-then (stage1 vectors) s k after stride (λ z. done (Range x.value y.value z.value)) (source.end w (Ok (pos 1)) t) (λ c. Ok (pick_by i j c)) IsNumber Adds
           (part_stands k after (omega (arith, at1, at2, l)) kept' (constant I32 (pos 1)) (Ok (pos 1)) (does-stride vectors base s k after (omega (arith, at1, at2, l, g))) t
           (subst (λ o. GivenStands vectors base start s w o t) (sym (at2 ∙ ap (after_given s (bound Upper dim r) q) at1)) stands.2))
-          (λ c o last at3 kept3 hz. does-done vectors s o last (Range x.value y.value (stride s k).made.value) (pick_by i j c) Adds
+          (λ c o last at3 kept3 hz. does-done (stage1 vectors) s o last (Range x.value y.value (stride s k).made.value) (pick_by i j c) Adds
           (λ rho later d' ds ss ps rest.
           let till : Kept k after rho = λ b low. later b (omega (arith, low, at3)) ∙ kept3 b low in
           triplet-adds x y (stride s k).made i j c rho d' (number-kept x i k after rho hx till) (number-kept y j k after rho hy till) (number-kept (stride s k).made c o last rho hz later) ds ss ps rest))
@@ -133,14 +134,14 @@ module _ (vectors : List ℕ) (base from : ℕ) (start here : Environment) (s : 
       pub does-triplet : Does vectors s n env (lower then (λ x. upper then (λ y. stride then (λ z. done (Range x.value y.value z.value)))))
           (source.end w (Ok d.lower) p >>= (λ i. source.end w (omitted_upper d) q >>= (λ j. source.end w (Ok (pos 1)) t >>= (λ k. Ok (pick_by i j k))))) Adds
       does-triplet =
-          does-then vectors s n env lower (λ x. upper then (λ y. stride then (λ z. done (Range x.value y.value z.value)))) (source.end w (Ok d.lower) p)
+          does-then (stage1 vectors) s n env lower (λ x. upper then (λ y. stride then (λ z. done (Range x.value y.value z.value)))) (source.end w (Ok d.lower) p)
           (λ i. source.end w (omitted_upper d) q >>= (λ j. source.end w (Ok (pos 1)) t >>= (λ k. Ok (pick_by i j k)))) IsNumber Adds
           (part_stands n env l kept (bound Lower dim r) (Ok d.lower) (bound_stands n env l kept Lower) p stands.0)
           (λ i m middle at1 kept1 hx.
           let x = (lower s n).made in
           let kept' : Kept from here middle = λ b low. kept1 b (omega (arith, low, l)) ∙ kept b low in
           let l' : from ≤ m = omega (arith, at1, l) in
-          does-then vectors s m middle upper (λ y. stride then (λ z. done (Range x.value y.value z.value))) (source.end w (omitted_upper d) q) (λ j. source.end w (Ok (pos 1)) t >>= (λ k. Ok (pick_by i j k))) IsNumber Adds
+          does-then (stage1 vectors) s m middle upper (λ y. stride then (λ z. done (Range x.value y.value z.value))) (source.end w (omitted_upper d) q) (λ j. source.end w (Ok (pos 1)) t >>= (λ k. Ok (pick_by i j k))) IsNumber Adds
           (part_stands m middle l' kept' (bound Upper dim r) (omitted_upper d) (bound_stands m middle l' kept' Upper) q (subst (λ o. GivenStands vectors base start s w o q) (sym at1) stands.1))
           (λ j k after at2 kept2 hy.
           last_part m k middle after x (upper s m).made i j at1 at2 (λ b low. kept2 b (omega (arith, low, l')) ∙ kept' b low)

@@ -1,5 +1,5 @@
 -- What a walk without a fault says of the last op that it passed.
-use Rattle.std.proofs.Common.{◌≡◌, refl, sym, ap, ◌∙◌, subst, ℕ, zero, suc, ◌+◌, Bool, true, false, if◌then◌else◌, List, [], ◌∷◌, ◌++◌, Option, Some, Ok, Err, ℤ, pos, negsuc, arith}
+use Rattle.std.proofs.Common.{◌≡◌, refl, sym, ap, ◌∙◌, subst, ℕ, zero, suc, ◌+◌, Bool, true, false, if◌then◌else◌, List, [], ◌∷◌, ◌++◌, Option, Some, Ok, Err, ℤ, pos, negsuc, arith, IfOk}
 use Rattle.ws_base.specs.Outcomes.{Staged, ◌>>=◌}
 use Rattle.ws_space.specs.Values.{is_among}
 use Rattle.hlfir_ops.specs.declared.kinds.Elem.TheVariants.{I32}
@@ -24,6 +24,9 @@ abbrev pub Walked : List ℕ → ℕ → Environment → List Op → ℕ → Env
 Walked vectors n env ops m after = (rest : List Op) → stage1 vectors n env (ops ++ rest) ≡ stage1 vectors m after rest
 
 -- ---- what a walk ended in
+
+pub of_ok : (P : Value → Type 0) (r : Staged Value) (v : Value) → IfOk r P → r ≡ Ok v → P v
+of_ok P r v h is = subst (λ q. IfOk q P) is h
 
 env_of : Staged Yielded → Environment
 env_of (Ok y) = y.env

@@ -13,11 +13,12 @@ use Rattle.lower_values.specs.Values.{value}
 use Rattle.value_laws.specs.Standing.{Stands}
 use Rattle.value_laws.specs.Names.{Agrees}
 use Rattle.value_laws.specs.Sound.{IsSound, IsClear}
+use Rattle.value_laws.specs.Regions.{IsScalarOf}
 use Rattle.value_laws.proofs.Elementals.{shapes-are}
 use Rattle.value_laws.proofs.Evaluated.{values-same}
 use Rattle.part_laws.specs.Joined.{HasSmallRanks}
 use Rattle.part_laws.specs.Lefts.{region_of, Ends}
-use Rattle.part_laws.specs.Yielded.{IsScalarOf, HasValues}
+use Rattle.part_laws.specs.Yielded.{HasValues}
 use Rattle.part_laws.proofs.Joined.{expressions-stand}
 use Rattle.part_laws.proofs.Regions.{does-ends}
 

@@ -4,7 +4,6 @@ use Rattle.ws_tree.specs.declared.expr.Expr.{Expr}
 use Rattle.ws_tree.specs.declared.expr.Expr.TheVariants.{Named}
 use Rattle.array_meaning.specs.declared.world.World.{World}
 use Rattle.array_meaning.specs.declared.term.Term.{Term}
-use Rattle.array_meaning.specs.declared.term.Term.TheVariants as term
 use Rattle.array_meaning.specs.Stage1 as source
 use Rattle.array_meaning.specs.Stage2 as later
 use Rattle.hlfir_meaning.specs.Environments.{Value, variable, scalar, Environment, Yielded, result}
@@ -15,12 +14,9 @@ use Rattle.lower_values.specs.Values.{value}
 use Rattle.value_laws.specs.Standing.{AreIn}
 use Rattle.value_laws.specs.Names.{Agrees}
 use Rattle.value_laws.specs.Sound.{IsSound, IsClear}
+use Rattle.value_laws.specs.Regions.{IsScalarOf}
 use Rattle.part_laws.specs.Joined.{HasSmallRanks}
 use Rattle.part_laws.specs.Lefts.{region_of, Ends}
-
-abbrev pub IsScalarOf : Value → Term → Type 0
-IsScalarOf v (term.Scalar z) = v ≡ scalar z
-IsScalarOf v t = Unit {0}
 
 -- what is yielded has the term's array operands, and at any places of their shape the term's values or its fault
 pub record HasValues (y : Yielded) (t : Term) : Type 0 where

@@ -43,7 +43,7 @@ use Rattle.kind_laws.proofs.Held.{held-rest, held-statement}
 use Rattle.kind_laws.proofs.ScopesKnown.{forall_known, loop_known}
 use Rattle.kind_laws.proofs.ScopesFound.{inside_found}
 use Rattle.kind_laws.proofs.Grammar.{where_parts, else_parts, forall_parts, loop_parts, shared_parts}
-use Rattle.kind_laws.proofs.Faultless.{where_faultless, else_faultless, forall_faultless, loop_faultless, shared_faultless}
+use Rattle.kind_laws.proofs.Faultless.{where_faultless, else_faultless, forall_faultless, loop_faultless, shared_faultless, IsOuter}
 use Rattle.kind_laws.proofs.Ends.{ops_in-second}
 use Rattle.place_laws.proofs.Keeping.{Keeps, keeps-done, keeps-then, keeps-region, keeps-where, keeps-elsewhere, elsewhere-is}
 use Rattle.place_laws.proofs.WhereBodies.{where-fits, elsewhere-fits}
@@ -169,10 +169,6 @@ module _ (vs : List Value) where
         keeps-then vs T t (elsewhere own mask (statements block)) (elsewheres rest)
         (elsewhere-bodies in_where room t own line first mask block parts.0 parts.1 right.in_header right.in_block (keeps-block in_where room t (else_control t own line first mask) block parts.1 right.in_block))
         (keeps-elses parts.2.room t line first rest parts.2.stands right.in_rest)
-
-  -- a statement of the program that stands in no construct
-  abbrev IsOuter : Stmt → Type 0
-  IsOuter s = IsBody anywhere 64 s.line s.body
 
   pub keeps-list : (t : List Row) (w : Within) (xs : List Stmt) → All IsOuter xs → stmts_faults t w xs ≡ [] → Keeps vs T t (statement_list xs)
   keeps-list t w [] g f = keeps-done vs T t

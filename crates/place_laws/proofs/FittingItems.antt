@@ -1,9 +1,10 @@
 -- The ops of one ALLOCATE, DEALLOCATE or READ, and declares, fit one after another.
-use Rattle.std.proofs.Common.{◌≡◌, refl, sym, ap, ◌∙◌, subst, ℕ, suc, ◌+◌, ◌==◌, Bool, true, false, ◌||◌, List, [], ◌∷◌, ◌++◌, Option, Some, None, nat_lt, true≢false, arith}
+use Rattle.std.proofs.Common.{◌≡◌, refl, sym, ap, ◌∙◌, subst, ℕ, suc, ◌+◌, ◌==◌, Bool, true, false, ◌||◌, List, [], ◌∷◌, ◌++◌, Option, Some, None, nat_lt, true≢false}
 use Rattle.std.specs.Prelude.{⊤, not, ◌&&◌}
 use Rattle.std.specs.List.{list_all}
 use Rattle.ws_base.specs.declared.name.Name.{Name}
-use Rattle.std.proofs.lemmas.Bool.{and_from}
+use Rattle.std.proofs.lemmas.Bool.{and_from, eq-eqb}
+use Rattle.std.proofs.Math.Bool.{or-true}
 use Rattle.hlfir_ops.specs.declared.kinds.ValueKind.{ValueKind}
 use Rattle.hlfir_ops.specs.declared.what.What.{What}
 use Rattle.hlfir_ops.specs.declared.what.What.TheVariants as what
@@ -51,9 +52,6 @@ pub record AreItems {A : Type 0} (f : Bool → A → Lowering ⊤) (w : Bool →
   pub same : (also other : Bool) → same_sort (w also) (w other) ≡ true
   pub also : (also : Bool) → is_also (w also) ≡ also
 
-same_line : (line other : ℕ) → line ≡ other → (line == other) ≡ true
-same_line line other is = grind (arith, is)
-
 where-so : (b good : Bool) → (b ≡ true → good ≡ true) → (not b || good) ≡ true
 where-so true good h = h refl
 where-so false good h = refl
@@ -61,10 +59,6 @@ where-so false good h = refl
 after-one : (also : Bool) (w : What) (line : ℕ) (before : List Op) → also ≡ true → IsAfter also w line before → EndsLike w line before
 after-one true w line before late h = h
 after-one false w line before late h = absurd (true≢false (sym late))
-
-or-true : (b : Bool) → (b || true) ≡ true
-or-true true = refl
-or-true false = refl
 
 module _ {A : Type 0} (f : Bool → A → Lowering ⊤) (w : Bool → What) (line : ℕ) (items : AreItems f w line) where
   module _ (own : Bool) (before : List Op) (also : Bool) (operands : List ValueId) (regions : List Region) where
@@ -74,7 +68,7 @@ module _ {A : Type 0} (f : Bool → A → Lowering ⊤) (w : Bool → What) (lin
     like-last : (last : Op) → same_sort (out-Op last).what (w also) ≡ true → (out-Op last).line ≡ line → is_like (Some last) one_op ≡ true
     like-last last sort same =
         ap (λ g. same_sort (out-Op last).what g.what && (out-Op last).line == g.line) (parts-op_of (w also) line operands None regions)
-        ∙ and_from (same_sort (out-Op last).what (w also)) ((out-Op last).line == line) sort (same_line (out-Op last).line line same)
+        ∙ and_from (same_sort (out-Op last).what (w also)) ((out-Op last).line == line) sort (eq-eqb (out-Op last).line line same)
 
     follows-like : IsAfter also (w also) line before → (not also || is_like (last_of before) one_op) ≡ true
     follows-like h = where-so also (is_like (last_of before) one_op) (λ late. let g = after-one also (w also) line before late h in ap (λ o. is_like o one_op) g.is ∙ like-last g.last g.sort g.on)

@@ -2,6 +2,7 @@
 use Rattle.std.proofs.Common.{◌≡◌, refl, ap, ◌∙◌, ℕ, ◌+◌, Bool, true, false, ◌||◌, List, [], ◌∷◌, ◌++◌, map, Option, Some, None}
 use Rattle.std.specs.Prelude.{⊤, not, ◌&&◌}
 use Rattle.std.specs.List.{list_all}
+use Rattle.std.proofs.Math.Bool.{or-true}
 use mathlib.Core.Former.{Count}
 use Rattle.ws_tree.specs.declared.expr.Expr.{Expr}
 use Rattle.ws_tree.specs.declared.stmt.Body.{Body}
@@ -43,10 +44,6 @@ use Rattle.kind_laws.proofs.Ends.{ops-region_of}
 use Rattle.place_laws.proofs.Sorts.{program_block, shared_block}
 use Rattle.place_laws.proofs.Fitting.{fit, Fits, Enters, AllEnter, enters-plain, fits-by, fits-done, fits-then, fits-scoped, fits-statement}
 use Rattle.place_laws.proofs.FittingItems.{items-fit, allocations, deallocations, readings, declares-fit}
-
-or-true : (b : Bool) → (b || true) ≡ true
-or-true true = refl
-or-true false = refl
 
 -- an op that is a statement without `also`, and one that is none but stands in another list than the module's own
 module _ (w : What) (line : ℕ) (operands : List ValueId) (ps : List (Lowering ⊤)) (own : Bool) (before : List Op) (s : Scope) (n : ℕ) (enter : AllEnter ps) (single : is_also w ≡ false) where

@@ -10,7 +10,6 @@ pub mod FittingItems
 pub mod FittingStatements
 pub mod Scalars
 pub mod ScalarValues
-pub mod Outermost
 pub mod Yields
 pub mod MaskFacts
 pub mod Keeping

@@ -19,7 +19,7 @@ use Rattle.place_laws.specs.Laws.{WheresFit, ForallsFit}
 use Rattle.place_laws.proofs.Printed.{all_pass, Everywhere}
 use Rattle.place_laws.proofs.Lowered.{makes-then}
 use Rattle.kind_laws.proofs.Held.{held-whole, held-rest}
-use Rattle.place_laws.proofs.Outermost.{all_found}
+use Rattle.kind_laws.proofs.DeclaresFound.{all_found}
 use Rattle.place_laws.proofs.Bodies.{bodies, where_part, forall_part, free-declares}
 use Rattle.place_laws.proofs.BodiesFit.{keeps-list}
 

@@ -1,11 +1,9 @@
 -- Inside a FORALL an expression of rank 0 is lowered to ops on scalars alone.
-use Rattle.std.proofs.Common.{◌≡◌, refl, sym, ap, ◌∙◌, ℕ, suc, ◌+◌, Bool, true, false, List, [], ◌∷◌, ◌++◌, length, map, Option, Some, None, pos, nat_lt, max, if◌then◌else◌, arith}
-use Rattle.std.proofs.lemmas.Bool.{ltb-false}
+use Rattle.std.proofs.Common.{◌≡◌, refl, sym, ap, ◌∙◌, ℕ, suc, ◌+◌, Bool, true, false, List, [], ◌∷◌, ◌++◌, length, map, Option, Some, None, pos, arith}
 use mathlib.Core.Former.{Count}
 use Rattle.ws_base.specs.Numbers.{truth}
 use Rattle.ws_base.specs.declared.name.Name.{Name}
 use Rattle.ws_base.specs.declared.op.CallWord.{CallWord}
-use Rattle.ws_base.specs.declared.refusal.RefusalKind.TheVariants as kind
 use Rattle.ws_tree.specs.declared.expr.Expr.{Expr}
 use Rattle.ws_tree.specs.declared.expr.Expr.TheVariants.{Number, TooWide, TooDeep, Truth, Named, Part', Call', Vector'}
 use Rattle.ws_tree.specs.declared.expr.Sub.TheVariants as sub
@@ -13,11 +11,10 @@ use Rattle.ws_tree.specs.Trees.{Exprs, end_exprs, more_exprs, Subs, end_subs, mo
 use Rattle.ws_tree.specs.Grammatical.{IsExpr, AreExprs, AreSubs}
 use Rattle.ws_types.specs.declared.types.Typed.{Typed}
 use Rattle.ws_types.specs.declared.types.Row.{Row}
-use Rattle.ws_types.specs.declared.types.Arguments.{Arguments}
 use Rattle.ws_types.specs.declared.types.Subscripts.{Subscripts}
 use Rattle.ws_types.specs.Names.{standing_of}
-use Rattle.ws_types.specs.Operations.{takes, is_inquiry, is_reduction, no_subscripts, with_subscript, no_arguments, with_argument, vector_faults, call_type, part_faults, part_type}
-use Rattle.ws_types.specs.Expressions.{listed, how_many, named_type, named_faults, typed, faults, arguments, all_faults, subs_faults, called_type, called_faults}
+use Rattle.ws_types.specs.Operations.{is_inquiry, no_subscripts, with_subscript, no_arguments, part_faults, part_type}
+use Rattle.ws_types.specs.Expressions.{listed, how_many, named_type, named_faults, typed, faults, arguments, all_faults, subs_faults}
 use Rattle.ws_types.specs.Expressions as types
 use Rattle.hlfir_ops.specs.declared.kinds.Elem.TheVariants.{I32, I1}
 use Rattle.hlfir_ops.specs.declared.what.ValueBinary.{ValueBinary}
@@ -30,57 +27,22 @@ use Rattle.lower_values.specs.Operations.{binary_of, binary_operation, in_parent
 use Rattle.lower_values.specs.References.{sub_kind, or_nothing, reference, loaded, named, subscript_of, designated, inquiry}
 use Rattle.lower_values.specs.Values.{call_by, part_of, value, values, nested, subscripts, subscript}
 use Rattle.kind_laws.specs.Standing.{Knows}
-use Rattle.kind_laws.proofs.NoFaults.{none_first, none_after, impossible, left_false}
-use Rattle.kind_laws.proofs.TypeFacts.{no_type, not_chosen, unary_operand, binary_result, part_result}
+use Rattle.kind_laws.proofs.NoFaults.{none_first, none_after}
+use Rattle.kind_laws.proofs.TypeFacts.{no_type, unary_operand, binary_result, part_result}
 use Rattle.kind_laws.proofs.TypesKnown.{name_known}
 use Rattle.kind_laws.proofs.TypedExpressions.{type_known}
 use Rattle.kind_laws.proofs.Made as made
-use Rattle.kind_laws.proofs.Arguments.{AreOf, argued, argued-rank}
-use Rattle.kind_laws.proofs.CallsMade.{call_result, call_result-is}
-use Rattle.kind_laws.proofs.FormsMade.{AddUp, AreTyped, types_known, arguments-are, call_typed, parts_faultless, is_nesting}
+use Rattle.kind_laws.proofs.Arguments.{AreOf, argued-rank}
+use Rattle.kind_laws.proofs.FormsMade.{AddUp, AreTyped, is_nesting}
 use Rattle.kind_laws.proofs.ExpressionsMade.{value_made, values_made, subscripts_made}
+use Rattle.kind_laws.proofs.ScalarRanks.{both_zero, AllScalar, subscript_scalar, one_more, subscripts_scalar, no_vector, called_scalar}
 use Rattle.place_laws.proofs.Simple.{simple-constant, simple-reference, simple-loaded, simple-named, simple-inquiry, simple-in_parentheses}
 use Rattle.place_laws.proofs.Scalars.{Works, IsScalar, ScalarBefore, simple_works, works-done, works-then, works-after, works-folded, works-binary, works-unary, works-joined, joined-scalar, works-call, works-designated}
 
 -- ---- ranks
 
-both_zero : (a b : ℕ) → max a b ≡ 0 → (a ≡ 0) × (b ≡ 0)
-both_zero a b h = (omega (arith, h), omega (arith, h))
-
-AllScalar : List Typed → Type 0
-AllScalar [] = Unit {0}
-AllScalar (a ∷ tys) = (a.rank ≡ 0) × AllScalar tys
-
-arguments_scalar : (c : Arguments) (tys : List Typed) → (argued c tys).rank ≡ 0 → (c.rank ≡ 0) × AllScalar tys
-unfolding AllScalar
-arguments_scalar c [] h = (h, tt)
-arguments_scalar c (a ∷ tys) h = let rest = arguments_scalar (with_argument c (Some a)) tys h in let zero = both_zero c.rank a.rank rest.0 in (zero.0, (zero.1, rest.1))
-
-subscript_scalar : (c : Subscripts) (a : Typed) → (with_subscript c (Some a)).rank ≡ 0 → (c.rank ≡ 0) × (a.rank ≡ 0)
-subscript_scalar c a h = at (nat_lt 0 a.rank) refl h where
-  at : (b : Bool) → nat_lt 0 a.rank ≡ b → (if b then c.rank + 1 else c.rank) ≡ 0 → (c.rank ≡ 0) × (a.rank ≡ 0)
-  at true is e = absurd (omega (arith, e))
-  at false is e = (e, let low = ltb-false 0 a.rank is in omega (arith, low))
-
 none_added : (m rank : ℕ) → m + 0 ≡ rank → rank ≡ 0 → m ≡ 0
 none_added m rank h z = omega (arith, h, z)
-
-one_more : (m : ℕ) → m + 1 ≡ 0 → ⊥
-one_more m h = omega (arith, h)
-
-subscripts_scalar : {m : Count} (t : List Row) (line : ℕ) (c : Subscripts) (ss : Subs m) → subs_faults t true line ss ≡ [] → (types.subscripts t true c ss).rank ≡ 0 → c.rank ≡ 0
-subscripts_scalar t line c end_subs f h = h
-subscripts_scalar t line c (more_subs (sub.One e) ss) f h =
-    let one = type_known t true line e (none_first _ _ (none_first _ _ f)) in
-    let next = subscripts_scalar t line (with_subscript c (typed t true e)) ss (none_after _ _ f) h in
-    (subscript_scalar c one.0 (ap (λ o. (with_subscript c o).rank) (sym one.1) ∙ next)).0
-subscripts_scalar t line c (more_subs (sub.Range' l u st) ss) f h =
-    let next : c.rank + 1 ≡ 0 = subscripts_scalar t line (types.with_sub t true c (sub.Range' l u st)) ss (none_after _ _ f) h in absurd (one_more c.rank next)
-
--- FORALL has no constructors
-no_vector : {P : Type 0} (line count : ℕ) (a : Arguments) → vector_faults line true count a ≡ [] → P
-unfolding vector_faults
-no_vector line count a f = impossible line kind.Unsupported (none_first _ _ (none_first _ _ f))
 
 -- ---- calls
 
@@ -91,14 +53,6 @@ works-call_by s None false p q r f g h = h refl refl
 
 no_inquiry : (w : CallWord) (op : ValueBinary) → nesting_of w ≡ Some op → is_inquiry w ≡ false
 no_inquiry w op h = (is_nesting w op h).asks
-
--- a call of rank 0 that is no inquiry is no reduction, and its arguments have rank 0
-call_scalar : (w : CallWord) (a : Arguments) (ty : Typed) → call_type true w a ≡ Some ty → ty.rank ≡ 0 → (is_reduction w ≡ false) × (a.rank ≡ 0)
-unfolding call_type
-call_scalar w a ty h z =
-    let none : is_reduction w ≡ false = left_false _ _ (left_false _ _ (left_false _ _ (not_chosen _ (Some (call_result w a)) ty h))) in
-    let rank : (if is_reduction w then 0 else a.rank) ≡ 0 = ap (λ y. y.rank) (call_result-is true w a ty h) ∙ z in
-    (none, ap (λ b. if b then 0 else a.rank) (sym none) ∙ rank)
 
 -- ---- expressions
 
@@ -117,21 +71,7 @@ module _ (t : List Row) (line : ℕ) (s : Scope) (k : Knows t s) where
       (λ r. works-then s (AddUp 0 select.rank) (subscripts r 1 subs) (designated r) (elements r none zero) (subscripts_made t true line s k r 1 no_subscripts subs g none)
       (λ ss adds. works-designated s r ss (none_added (section_rank (map sub_kind ss)) select.rank adds zero)))
 
-  -- the types of the arguments, that their rules are kept, and their ranks
-  called_scalar : {m : Count} (w : CallWord) (es : Exprs m) (ty : Typed) → is_inquiry w ≡ false →
-      called_faults t true line w (listed es) (all_faults t true line es) (arguments t true no_arguments es) ≡ [] → called_type t true w (listed es) (arguments t true no_arguments es) ≡ Some ty → ty.rank ≡ 0 →
-      (tys : List Typed) × (all_faults t true line es ≡ []) × AreTyped t true es tys × (is_reduction w ≡ false) × AllScalar tys × ((argued no_arguments tys).rank ≡ 0)
-  called_scalar w es ty i f h z =
-      let none = parts_faultless (takes w (listed es)) (is_inquiry w) line _ (all_faults t true line es) _ i f in
-      let known = types_known t true line es none in
-      let same = arguments-are t true no_arguments es known.0 known.1 in
-      let type : call_type true w (argued no_arguments known.0) ≡ Some ty = ap (call_type true w) (sym same) ∙ call_typed (takes w (listed es)) (is_inquiry w) _ _ ty h i in
-      let scalar = call_scalar w (argued no_arguments known.0) ty type z in
-      (known.0, none, known.1, scalar.0, (arguments_scalar no_arguments known.0 scalar.1).1, scalar.1)
-
   mutual
-    unfolding AllScalar
-
     pub works-value : (e : Expr) (ty : Typed) → IsExpr e → faults t true line e ≡ [] → typed t true e ≡ Some ty → ty.rank ≡ 0 → Works s (value e)
     works-value (Number n) ty g f h z = λ m. simple-constant works_on_scalars simple_works I32 (pos n) s m
     works-value TooWide ty g f h z = no_type ty h
@@ -143,11 +83,11 @@ module _ (t : List Row) (line : ℕ) (s : Scope) (k : Knows t s) where
     works-value (Call' w _ es) ty g f h z =
         works-call_by s (nesting_of w) (is_inquiry w) (λ op. nested op None es) (inquiry w (listed es)) (values es >>= call_on w)
         (λ op is.
-        let args = called_scalar w es ty (no_inquiry w op is) f h z in
+        let args = called_scalar t line w es ty (no_inquiry w op is) f h z in
         works-nested op None es args.0 tt g.1 args.1 args.2 args.4)
         (λ m. simple-inquiry works_on_scalars simple_works w (listed es) s m)
         (λ m i.
-        let args = called_scalar w es ty i f h z in
+        let args = called_scalar t line w es ty i f h z in
         works-then s (AreOf args.0) (values es) (call_on w) (works-values es args.0 g.1 args.1 args.2 args.4) (values_made t true line s k es args.0 g.1 args.1 args.2)
         (λ xs are. works-call s w xs args.3 (argued-rank no_arguments args.0 xs 0 refl are ∙ args.5)))
     works-value (Vector' _ es) ty g f h z = no_vector line (length (listed es)) (arguments t true no_arguments es) (none_after _ _ f)
@@ -196,7 +136,7 @@ module _ (t : List Row) (line : ℕ) (s : Scope) (k : Knows t s) where
         (works-after s (value e) (λ x. done (subscript_of x)) (works-value e one.0 g.0 none one.1 zero) (λ x. works-done s (subscript_of x)))
         (λ x. works-after s (subscripts r (suc dim) ss) (λ xs. done (x ∷ xs)) (works-subscripts r (suc dim) (with_subscript c (typed t true e)) ss g.1 (none_after _ _ f) h) (λ xs. works-done s (x ∷ xs)))
     works-subscripts r dim c (more_subs (sub.Range' l u st) ss) g f h =
-        let next : c.rank + 1 ≡ 0 = subscripts_scalar t line (types.with_sub t true c (sub.Range' l u st)) ss (none_after _ _ f) h in absurd (one_more c.rank next)
+        let next : c.rank + 1 ≡ 0 = subscripts_scalar t line (types.with_sub t true c (sub.Range' l u st)) ss (none_after _ _ f) h in one_more c.rank next
 
   pub works-part : {m : Count} (x : Name) (subs : Subs m) (ty : Typed) → AreSubs subs → named_faults t line x ++ subs_faults t true line subs ++ part_faults line (named_type t x) (how_many subs) ≡ [] →
       part_type (named_type t x) (how_many subs) (types.subscripts t true no_subscripts subs) ≡ Some ty → ty.rank ≡ 0 → Works s (part_of x (λ r. subscripts r 1 subs))

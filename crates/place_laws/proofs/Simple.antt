@@ -71,12 +71,9 @@ module _ (T : Op → Bool) (simple : Simple T) where
   simple-constant e z = simple-giving (what.Constant z) [] (Scalar e) refl refl
 
   simple-whole : (k : ValueKind) (x : Operand) → Always T (value_of_whole k x)
-  simple-whole (Scalar e) x = simple-done x
-  simple-whole (Place e) x = simple-done x
   simple-whole (Declared e shape) x = simple-giving what.AsExpr (x.value ∷ []) (Array e shape.rank) refl refl
   simple-whole (Allocatable e rank) x = simple-giving what.AsExpr (x.value ∷ []) (Array e rank) refl refl
-  simple-whole (Section e rank) x = simple-done x
-  simple-whole (Array e rank) x = simple-done x
+  simple-whole k x = simple-done x
 
   pub simple-in_parentheses : (x : Operand) → Always T (in_parentheses x)
   unfolding in_parentheses
@@ -85,12 +82,8 @@ module _ (T : Op → Bool) (simple : Simple T) where
   -- ---- names
 
   simple-box : (k : ValueKind) (d : Operand) → Always T (box_of k d)
-  simple-box (Scalar e) d = simple-done d
-  simple-box (Place e) d = simple-done d
-  simple-box (Declared e shape) d = simple-done d
   simple-box (Allocatable e rank) d = simple-giving what.Boxed (d.value ∷ []) (Allocatable e rank) refl refl
-  simple-box (Section e rank) d = simple-done d
-  simple-box (Array e rank) d = simple-done d
+  simple-box k d = simple-done d
 
   pub simple-boxed : (d : Operand) → Always T (boxed d)
   unfolding boxed

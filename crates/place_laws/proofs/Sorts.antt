@@ -147,14 +147,9 @@ masked_statement : (t : List Row) (l : ℕ) (rank : Option ℕ) (line : ℕ) (bo
 unfolding in_where
 masked_statement t l rank line (Assign left right) f = λ realloc. refl
 masked_statement t l rank line (Masked' mask _ block _ rest) f = refl
-masked_statement t l rank line (Forall' is mask _ block) f = impossible line kind.Unsupported f
-masked_statement t l rank line (Loop' x lower upper s _ block) f = impossible line kind.Unsupported f
-masked_statement t l rank line (Shared' _ block) f = impossible line kind.Unsupported f
-masked_statement t l rank line (Allocate ps) f = impossible line kind.Unsupported f
-masked_statement t l rank line (Deallocate xs) f = impossible line kind.Unsupported f
-masked_statement t l rank line (Read es) f = impossible line kind.Unsupported f
 masked_statement t l rank line Unsupported f = tt
 masked_statement t l rank line TooDeep' f = tt
+masked_statement t l rank line _ f = impossible line kind.Unsupported f
 
 masked_statements : {m : Count} (t : List Row) (l : ℕ) (rank : Option ℕ) (block : Stmts m) → block_faults t (within.Masked l rank) block ≡ [] → AllPass in_where block
 masked_statements t l rank end_stmts f = tt
@@ -194,15 +189,9 @@ shared_block t block f s n = sorted-block in_workshare block (shared_statements 
 
 inner_statement : (t : List Row) (line : ℕ) (body : Body) → body_faults t within.Forall line body ≡ [] → Passes is_assign body
 inner_statement t line (Assign left right) f = λ realloc. refl
-inner_statement t line (Masked' mask _ block _ rest) f = impossible line kind.Unsupported f
-inner_statement t line (Forall' is mask _ block) f = impossible line kind.Unsupported f
-inner_statement t line (Loop' x lower upper s _ block) f = impossible line kind.Unsupported f
-inner_statement t line (Shared' _ block) f = impossible line kind.Unsupported f
-inner_statement t line (Allocate ps) f = impossible line kind.Unsupported f
-inner_statement t line (Deallocate xs) f = impossible line kind.Unsupported f
-inner_statement t line (Read es) f = impossible line kind.Unsupported f
 inner_statement t line Unsupported f = tt
 inner_statement t line TooDeep' f = tt
+inner_statement t line _ f = impossible line kind.Unsupported f
 
 inner_statements : {m : Count} (t : List Row) (block : Stmts m) → block_faults t within.Forall block ≡ [] → AllPass is_assign block
 inner_statements t end_stmts f = tt

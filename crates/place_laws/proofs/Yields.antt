@@ -1,6 +1,6 @@
 -- What the regions of a statement yield, and what is found of it.
-use Rattle.std.proofs.Common.{◌≡◌, refl, ap, ◌∙◌, ℕ, ◌==◌, Bool, true, List, [], ◌∷◌, Some, arith}
-use Rattle.std.proofs.lemmas.Bool.{and_from}
+use Rattle.std.proofs.Common.{◌≡◌, refl, ap, ◌∙◌, ℕ, Bool, true, List, [], ◌∷◌, Some}
+use Rattle.std.proofs.lemmas.Bool.{and_from, eq-eqb}
 use Rattle.ws_tree.specs.declared.expr.Expr.{Expr}
 use Rattle.ws_tree.specs.Grammatical.{IsSide, IsDesignator}
 use Rattle.ws_sema.specs.Statements.{left_faults, left_type}
@@ -54,13 +54,10 @@ module _ (vs : List Value) where
       let is = values_are_found t inside line e s n vs k f w (held-first vs (value e) (λ x. acting what.Yield (x.value ∷ [])) s n held) in
       record { kind = x.kind; found = ap kind_of is.found ∙ ap Some is.kind; type = kinds_are_types t inside line e s n ty (sides_are_expressions t inside line e g f) k f h }
 
-same_number : (m n : ℕ) → m ≡ n → (m == n) ≡ true
-same_number m n h = grind (arith, h)
-
 -- a value of this rank
 pub one_rank : (vs : List Value) (n : ℕ) (v : ValueId) (ps : List ValueId) (kind : ValueKind) → ps ≡ v ∷ [] → kind_at vs v ≡ Some kind → rank_of kind ≡ n → have_rank vs n ps ≡ true
 one_rank vs n v ps kind is found rank =
-    ap (have_rank vs n) is ∙ and_from (has_rank n (kind_at vs v)) true (ap (has_rank n) found ∙ same_number (rank_of kind) n rank) refl
+    ap (have_rank vs n) is ∙ and_from (has_rank n (kind_at vs v)) true (ap (has_rank n) found ∙ eq-eqb (rank_of kind) n rank) refl
 
 -- ---- left sides
 

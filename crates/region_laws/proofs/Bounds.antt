@@ -20,6 +20,7 @@ use Rattle.hlfir_meaning.specs.Assign as hlfir
 use Rattle.lower_values.specs.declared.operand.Operand.{Operand}
 use Rattle.value_laws.specs.Standing.{Stands}
 use Rattle.value_laws.specs.Variables.{IsNamed, IsWhole, IsWholeWhereNamed}
+use Rattle.value_laws.proofs.Walking.{same-ok}
 
 -- what a name leaves: a scalar, or a variable that holds the whole array
 abbrev pub IsNamedValue : Value → Term → Type 0
@@ -52,14 +53,6 @@ abbrev IsOk : {A : Type 0} → Staged A → Type 0
 IsOk (Ok a) = Unit {0}
 IsOk (Err t) = ⊥
 
-term_in : Term → Staged Term → Term
-term_in t (Ok u) = u
-term_in t (Err f) = t
-
-same_term : (t u : Term) → (let r : Staged Term = Ok t in r) ≡ Ok u → t ≡ u
-unfolding term_in
-same_term t u h = ap (term_in t) h
-
 module _ (v : Value) (e : Extents) where
   whole_bounds : (rank : ℕ) (a : ArrayValue) → IsWhole rank v (source.whole_array a) → new_bounds v e ≡ assigned.bounds_from (state.Array a) e
   whole_bounds rank a h = ap (λ u. new_bounds u e) h.value ∙ (ap (λ s. hlfir.bounds_from s e) h.holds ∙ ap (λ b. hlfir.bounds_from (state.Array b) e) (sym (same_array a h.array h.term)))
@@ -68,11 +61,11 @@ module _ (v : Value) (e : Extents) where
   scalar_bounds z h = ap (λ u. new_bounds u e) h
 
   variable_bounds : (held : VarState) (t : Term) → source.variable held ≡ Ok t → IsNamedValue v t → new_bounds v e ≡ assigned.bounds_from held e
-  variable_bounds (state.Scalar z) t is h = scalar_bounds z (subst (IsNamedValue v) (sym (same_term (term.Scalar z) t is)) h)
-  variable_bounds (state.Array a) t is h = let whole = subst (IsNamedValue v) (sym (same_term (source.whole_array a) t is)) h in whole_bounds whole.0 a whole.1
+  variable_bounds (state.Scalar z) t is h = scalar_bounds z (subst (IsNamedValue v) (sym (same-ok (term.Scalar z) t is)) h)
+  variable_bounds (state.Array a) t is h = let whole = subst (IsNamedValue v) (sym (same-ok (source.whole_array a) t is)) h in whole_bounds whole.0 a whole.1
   variable_bounds (state.Unallocated r) t is h = absurd (subst IsOk (sym is) tt)
 
   -- a name that is a constant holds nothing
   pub named-bounds : (c : Option ℤ) (held : VarState) (t : Term) → source.named c held ≡ Ok t → ((z : ℤ) → c ≡ Some z → held ≡ state.Scalar (pos 0)) → IsNamedValue v t → new_bounds v e ≡ assigned.bounds_from held e
   named-bounds None held t is none h = variable_bounds held t is h
-  named-bounds (Some z) held t is none h = scalar_bounds z (subst (IsNamedValue v) (sym (same_term (term.Scalar z) t is)) h) ∙ ap (λ s. assigned.bounds_from s e) (sym (none z refl))
+  named-bounds (Some z) held t is none h = scalar_bounds z (subst (IsNamedValue v) (sym (same-ok (term.Scalar z) t is)) h) ∙ ap (λ s. assigned.bounds_from s e) (sym (none z refl))

@@ -30,6 +30,7 @@ use Rattle.lower_values.specs.References.{variable_of, reference, load_of, loade
 use Rattle.lower_values.specs.Scopes.{Scope}
 use Rattle.lower_assign.specs.Statements.{yielded, left_of, is_whole_allocatable}
 use Rattle.lower_values.specs.Values.{part_of, subscripts}
+use Rattle.kind_laws.proofs.NoFaults.{none_first, none_after, not_broken}
 use Rattle.value_laws.specs.Names.{Agrees}
 use Rattle.value_laws.specs.Sound.{IsSoundPart, AreSoundSubs, AreClearSubs}
 use Rattle.value_laws.proofs.ClearExpressions.{clear-subs}
@@ -37,7 +38,6 @@ use Rattle.value_laws.proofs.ClearSubscripts.{part-clear}
 use Rattle.value_laws.proofs.ClearForms.{and-false, one-giving}
 use Rattle.value_laws.proofs.VectorNumbers.{or-false, subscripts-append}
 use Rattle.value_laws.proofs.Yielding.{yielded-vectors}
-use Rattle.sound_laws.proofs.NamesSound.{front-none, back-none, when-none}
 use Rattle.part_laws.specs.Laws.{part_selected}
 use Rattle.part_laws.specs.Lefts.{region_of}
 use Rattle.part_laws.proofs.Lefts.{left-parts-reach, left-names-reach, left-declares-reach}
@@ -126,8 +126,8 @@ module _ (t : List Row) (line : ℕ) (by_box : Bool) (s : Scope) (n : ℕ) (w : 
   none_left e f =
       let first = faults t false line e in
       let second = target_faults line (target_standing t e) in
-      let two = front-none (first ++ second) (when (not (is_designator e)) line refusal.Unsupported) f in
-      (front-none first second two, back-none first second two)
+      let two = none_first (first ++ second) (when (not (is_designator e)) line refusal.Unsupported) f in
+      (none_first first second two, none_after first second two)
 
   left_side : (e : Expr) → IsDesignator e → faults t false line e ≡ [] → target_faults line (target_standing t e) ≡ [] → Goal e
   unfolding wide_faults
@@ -137,7 +137,7 @@ module _ (t : List Row) (line : ℕ) (by_box : Bool) (s : Scope) (n : ℕ) (w : 
       let ops = (yielded (left_of by_box (Part' x many subs)) s n).ops in
       subst (λ b. Reaches w (Part' x many subs) b n ops (assigned.target by_box w (Part' x many subs))) (sym (and-false (not by_box)))
       (subst (Reaches w (Part' x many subs) false n ops) (sym (part-target w x subs)) (part_reaches x subs sound g.1 (Part' x many subs) refl))
-  left_side TooDeep g f target = absurd (true≢false (when-none true line _ f))
+  left_side TooDeep g f target = absurd (true≢false (not_broken true line _ f))
   left_side e g f target = absurd g
 
   pub lefts-mean : (e : Expr) → IsDesignator e → left_faults t false line e ≡ [] → Goal e

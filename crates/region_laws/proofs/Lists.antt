@@ -16,7 +16,7 @@ use Rattle.array_meaning.specs.Stage1 as source
 use Rattle.hlfir_ops.specs.Numbers.{numbers_of}
 use Rattle.hlfir_ops.specs.RulesValues.{rank_of}
 use Rattle.hlfir_meaning.specs.Environments.{scalar, Environment, of_variables}
-use Rattle.hlfir_meaning.specs.Stage1.{subscript_numbers}
+use Rattle.hlfir_meaning.specs.Stage1.{subscript_numbers, stage1}
 use Rattle.lower_values.specs.declared.operand.Operand.{Operand}
 use Rattle.lower_values.specs.Lists.{values}
 use Rattle.lower_values.specs.Lowerings.{done, ◌>>=◌ as ◌then◌}
@@ -33,7 +33,7 @@ use Rattle.value_laws.proofs.Walking.{does-done, does-then}
 use Rattle.value_laws.proofs.Elementals.{own-small}
 use Rattle.part_laws.proofs.Joined.{expressions-stand}
 use Rattle.sound_laws.proofs.ExpressionsSound.{given-sound}
-use Rattle.world_laws.specs.Meanings.{StandsOutside, IsIntegerScalar, AreVectorsOf}
+use Rattle.world_laws.specs.Meanings.{StandsOutside, IsIntegerScalar}
 use Rattle.world_laws.specs.Worlds.{FitsNames}
 use Rattle.world_laws.specs.Yields.{scalars_of}
 use Rattle.region_laws.proofs.Agreeing.{small-ranks, declare-held, agrees}
@@ -70,13 +70,13 @@ module _ (s : Scope) (w : World) (fits : FitsNames s.names w) (vectors : List �
     more_values es rest own_rest =
         let x = (value e s n).made in
         let join : Term → List ℤ → Staged (List ℤ) = λ t zs. Ok (source.value_of t ∷ zs) in
-        does-then vectors s n env (value e) (λ y. values es then (λ ys. done (y ∷ ys))) (source.walk w e) (λ t. scalars_of w es >>= join t) (λ y t m after. Stands base n m after y t) AreValues first_stands
+        does-then (stage1 vectors) s n env (value e) (λ y. values es then (λ ys. done (y ∷ ys))) (source.walk w e) (λ t. scalars_of w es >>= join t) (λ y t m after. Stands base n m after y t) AreValues first_stands
         (λ t m middle at kept h.
         let here : middle x.value.number ≡ scalar (source.value_of t) = scalar_value base n m middle x t (scalar_e.1 n) h in
-        does-then vectors s m middle (values es) (λ ys. done (x ∷ ys)) (scalars_of w es) (join t) AreValues AreValues
+        does-then (stage1 vectors) s m middle (values es) (λ ys. done (x ∷ ys)) (scalars_of w es) (join t) AreValues AreValues
         (rest_at m middle at kept)
         (λ zs j after at' kept' h'.
-        does-done vectors s j after (x ∷ (values es s m).made) (source.value_of t ∷ zs) AreValues
+        does-done (stage1 vectors) s j after (x ∷ (values es s m).made) (source.value_of t ∷ zs) AreValues
         (ap (λ v. v ∷ map (λ y. after y.value.number) (values es s m).made) (kept' x.value.number (own-small base n m x.value.number g (omega (arith, at)) h.own) ∙ here)
         ∙ ap (λ vs. scalar (source.value_of t) ∷ vs) h')))
       where
@@ -86,7 +86,7 @@ module _ (s : Scope) (w : World) (fits : FitsNames s.names w) (vectors : List �
 
   pub values-of : (es : List Expr) → All (IsScalar s) es → Goal es
   unfolding values
-  values-of [] scalars n env g declares own = does-done vectors s n env [] [] AreValues refl
+  values-of [] scalars n env g declares own = does-done (stage1 vectors) s n env [] [] AreValues refl
   values-of (e ∷ es) scalars n env g declares own =
       let sound = All-weaker (IsScalar s) (IsSound true s) (λ x both. both.0) (e ∷ es) scalars in
       more_values n env g declares e (All-head (IsScalar s) e es scalars) (vectors-first (length w.vars) s below vectors n g e es sound own) es
@@ -98,7 +98,7 @@ module _ (t : List Row) (line : ℕ) (s : Scope) (n : ℕ) (w : World) (h : Stan
   scalar_is : (e : Expr) → IsIntegerScalar t line e → IsScalar s e
   scalar_is e g = given-sound types_are_known kinds_are_types t line s h.knows h.no_index (given e) g.0 (ap (λ rs. rs ++ scalar_faults line (typed t false e)) g.1 ∙ g.2)
 
-  pub lists-mean : (es : List Expr) (vectors : List ℕ) (env : Environment) → ((k : ℕ) → k < length w.vars → env k ≡ of_variables w.vars k) → All (IsIntegerScalar t line) es → AreVectorsOf vectors n (values es s n).ops →
+  pub lists-mean : (es : List Expr) (vectors : List ℕ) (env : Environment) → ((k : ℕ) → k < length w.vars → env k ≡ of_variables w.vars k) → All (IsIntegerScalar t line) es → VectorsAre vectors n (values es s n).ops →
       Does vectors s n env (values es) (scalars_of w es) (λ xs zs after rho. map (λ x. rho x.value.number) xs ≡ map scalar zs)
   lists-mean es vectors env declares scalars own =
       values-of s w h.world vectors (λ x d is. (declare-held s.names w h.world env declares x d is).below) es (All-weaker (IsIntegerScalar t line) (IsScalar s) scalar_is es scalars) n env h.declared declares own

@@ -25,7 +25,8 @@ use Rattle.kind_laws.specs.Standing.{Knows, EntryIsKnown, NameIsKnown}
 use Rattle.kind_laws.proofs.TypedExpressions.{types_are_known}
 use Rattle.kind_laws.proofs.ExpressionsMade.{kinds_are_types}
 use Rattle.kind_laws.proofs.FormsMade.{some_subs}
-use Rattle.sound_laws.proofs.NamesSound.{front-none, back-none, when-none, part-variable}
+use Rattle.kind_laws.proofs.NoFaults.{none_first, none_after, not_broken}
+use Rattle.sound_laws.proofs.NamesSound.{part-variable}
 use Rattle.sound_laws.proofs.ExpressionsSound.{subscripts-sound}
 use Rattle.value_laws.specs.Sound.{IsSoundPart, AreSoundSubs}
 use Rattle.value_laws.specs.Variables.{Fits, IsNamed}
@@ -39,8 +40,8 @@ module _ (s : Scope) (x : Name) (line : ℕ) where
   no_target : (st : Option Standing) → target_faults line st ≡ [] → (is_constant st ≡ false) × (is_active st ≡ false)
   unfolding target_faults
   no_target st f = (
-    when-none (is_constant st) line _ (front-none (when (is_constant st) line _) (when (is_active st) line _) f),
-    when-none (is_active st) line _ (back-none (when (is_constant st) line _) (when (is_active st) line _) f),
+    not_broken (is_constant st) line _ (none_first (when (is_constant st) line _) (when (is_active st) line _) f),
+    not_broken (is_active st) line _ (none_after (when (is_constant st) line _) (when (is_active st) line _) f),
   )
 
   entry_name : (c : Bool) (e : _) → c ≡ false → EntryIsKnown c s.names x e → IsVariableName
@@ -52,8 +53,8 @@ module _ (s : Scope) (x : Name) (line : ℕ) where
   known_name (Some (Declared e)) h f constant active = entry_name e.constant e constant h.1
   known_name (Some (Active e)) h f constant active = absurd (true≢false active)
   known_name (Some Index) h f constant active = absurd (true≢false active)
-  known_name (Some Barred) h f constant active = absurd (true≢false (when-none true line _ (back-none (when false line _) (when true line _) f)))
-  known_name None h f constant active = absurd (true≢false (when-none true line _ (front-none (when true line _) (when false line _) f)))
+  known_name (Some Barred) h f constant active = absurd (true≢false (not_broken true line _ (none_after (when false line _) (when true line _) f)))
+  known_name None h f constant active = absurd (true≢false (not_broken true line _ (none_first (when true line _) (when false line _) f)))
 
   pub variable-name : (st : Option Standing) → NameIsKnown s x st → name_faults line st ≡ [] → target_faults line st ≡ [] → IsVariableName
   variable-name st h f g = let no = no_target st g in known_name st h f no.0 no.1
@@ -62,7 +63,7 @@ module _ (s : Scope) (x : Name) (line : ℕ) where
 
 part_none : (line : ℕ) (ty : Option Typed) (many : ℕ) → part_faults line ty many ≡ [] → is_other_number ty many ≡ false
 unfolding part_faults
-part_none line ty many h = when-none (is_other_number ty many) line refusal.RankWrong h
+part_none line ty many h = not_broken (is_other_number ty many) line refusal.RankWrong h
 
 pub part-sound : {k : Count} (t : List Row) (line : ℕ) (s : Scope) → Knows t s → s.indexes ≡ [] → (x : Name) (subs : Subs k) → HasSubs subs → AreSubs subs →
     (named_faults t line x ++ subs_faults t false line subs ++ part_faults line (name_type (standing_of t x)) (how_many subs)) ≡ [] → IsSoundPart true s x (how_many subs) (AreSoundSubs true s subs)
@@ -70,10 +71,10 @@ part-sound t line s knows none x subs some grammar f =
     let first = named_faults t line x in
     let second = subs_faults t false line subs in
     let third = part_faults line (name_type (standing_of t x)) (how_many subs) in
-    let two = front-none (first ++ second) third f in
-    let v = part-variable s x line (standing_of t x) (how_many subs) (knows x) (ap (λ is. index_of is x) none) (front-none first second two)
-    (part_none line (name_type (standing_of t x)) (how_many subs) (back-none (first ++ second) third f)) (some_subs subs some) in
-    (v.0, v.1, v.2, subscripts-sound types_are_known kinds_are_types t line s knows none subs grammar (back-none first second two))
+    let two = none_first (first ++ second) third f in
+    let v = part-variable s x line (standing_of t x) (how_many subs) (knows x) (ap (λ is. index_of is x) none) (none_first first second two)
+    (part_none line (name_type (standing_of t x)) (how_many subs) (none_after (first ++ second) third f)) (some_subs subs some) in
+    (v.0, v.1, v.2, subscripts-sound types_are_known kinds_are_types t line s knows none subs grammar (none_after first second two))
 
 -- what has subscripts is an array
 named_by : (k : ValueKind) (held : VarState) → Fits k held → 0 < rank_of k → IsNamed k

@@ -12,7 +12,6 @@ use Rattle.ws_types.specs.declared.types.Row.{Row}
 use Rattle.ws_types.specs.Expressions.{faults}
 use Rattle.array_meaning.specs.declared.world.World.{World}
 use Rattle.array_meaning.specs.declared.term.Term.{Term}
-use Rattle.array_meaning.specs.declared.term.Term.TheVariants as term
 use Rattle.array_meaning.specs.Stage1 as source
 use Rattle.array_meaning.specs.Assign as assigned
 use Rattle.hlfir_ops.specs.Numbers.{numbers_of}
@@ -32,36 +31,24 @@ use Rattle.value_laws.specs.Sound.{IsSound, IsClear}
 use Rattle.value_laws.proofs.ClearExpressions.{clear-whole}
 use Rattle.value_laws.proofs.Named.{name-rank}
 use Rattle.value_laws.proofs.Yielding.{yielded-vectors}
+use Rattle.value_laws.proofs.Walking.{same-ok}
 use Rattle.sound_laws.proofs.ExpressionsSound.{expression-sound}
 use Rattle.part_laws.specs.Lefts.{region_of, Ends}
-use Rattle.part_laws.specs.Yielded.{IsScalarOf, HasValues, IsName, IsNoVariable}
+use Rattle.part_laws.specs.Yielded.{HasValues, IsName, IsNoVariable}
 use Rattle.part_laws.proofs.Joined.{expressions-stand}
 use Rattle.part_laws.proofs.OnlyNames.{only-names}
 use Rattle.part_laws.proofs.Regions.{does-ends}
 use Rattle.part_laws.proofs.Yielded.{regions-yield}
 use Rattle.world_laws.specs.Meanings.{StandsOutside}
-use Rattle.world_laws.specs.Yields.{YieldStands, Yields}
-use Rattle.world_laws.specs.Yields as yields
+use Rattle.world_laws.specs.Yields.{Yields}
 use Rattle.region_laws.proofs.Agreeing.{not-given, state-none, small-ranks, agrees}
 use Rattle.region_laws.proofs.Bounds.{IsNamedValue, named-value, named-bounds}
 
 -- ---- what holds of one region's value
 
-yielded_in : Yielded → Staged Yielded → Yielded
-yielded_in y (Ok z) = z
-yielded_in y (Err f) = y
-
-same_yielded : (y z : Yielded) → (let r : Staged Yielded = Ok y in r) ≡ Ok z → y ≡ z
-unfolding yielded_in
-same_yielded y z h = ap (yielded_in y) h
-
 no_variable_bounds : (v : Value) (e : Extents) → IsNoVariable v → new_bounds v e ≡ assigned.bounds_from (state.Scalar (pos 0)) e
 no_variable_bounds (variable x) e h = absurd h
 no_variable_bounds v e h = refl
-
-scalar_too : (v : Value) (t : Term) → IsScalarOf v t → yields.IsScalarOf v t
-scalar_too v (term.Scalar z) h = h
-scalar_too v t h = tt
 
 module _ (s : Scope) (n : ℕ) (w : World) where
   abbrev env : Environment
@@ -75,10 +62,10 @@ module _ (s : Scope) (n : ℕ) (w : World) where
     h.0,
     h.1,
     record {
-      scalar = scalar_too (result h.0) t h.2.scalar;
+      scalar = h.2.scalar;
       operands = h.2.operands_are;
       values = h.2.values_are;
-      bounds = λ extents. ap (λ y. new_bounds (result y) extents) (same_yielded h.0 b.0 (sym h.1 ∙ b.1)) ∙ b.2 extents;
+      bounds = λ extents. ap (λ y. new_bounds (result y) extents) (same-ok h.0 b.0 (sym h.1 ∙ b.1)) ∙ b.2 extents;
     },
   )
   both e (Err f) h b = h

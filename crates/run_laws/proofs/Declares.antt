@@ -34,7 +34,7 @@ use Rattle.value_laws.specs.Variables.{Fits}
 use Rattle.world_laws.specs.Worlds.{FitsDeclare, FitDeclares}
 use Rattle.world_laws.proofs.Filling.{declared_fits}
 use Rattle.run_laws.proofs.States.{shape_rank}
-use Rattle.run_laws.proofs.Extended.{Extends, constancy-extends}
+use Rattle.kind_laws.proofs.Extended.{Extends, constancy-extends}
 
 -- ---- bounds
 

@@ -19,8 +19,9 @@ use Rattle.hlfir_meaning.specs.Assign.{Target, all_of, selected, movable}
 use Rattle.hlfir_meaning.specs.Statements.{target_extents, read_into}
 use Rattle.value_laws.specs.Standing.{AreIn}
 use Rattle.value_laws.proofs.Names.{whole_operands}
+use Rattle.value_laws.proofs.Wholes.{whole-targets, same_operand}
 use Rattle.world_laws.specs.Yields.{TargetStands}
-use Rattle.where_laws.proofs.Wholes.{whole-targets, whole-array}
+use Rattle.where_laws.proofs.Wholes.{whole-array}
 use Rattle.where_laws.proofs.Places.{all_within}
 
 -- ---- the shape of a term that is one array operand, or none
@@ -28,10 +29,6 @@ use Rattle.where_laws.proofs.Places.{all_within}
 selection_shape : (t : Term) (e : Extents) → later.operands t ≡ later.array_operand e → selection_extents (assigned.selection t) ≡ e
 selection_shape t [] h = rw h refl
 selection_shape t (n ∷ ns) h = rw h refl
-
-same_operand : (e : Extents) → array_operand e ≡ later.array_operand e
-same_operand [] = refl
-same_operand (n ∷ ns) = refl
 
 -- ---- places
 

@@ -26,7 +26,7 @@ use Rattle.array_meaning.specs.Forall.{stepping}
 use Rattle.array_meaning.specs.Program.{bound_dims}
 use Rattle.hlfir_ops.specs.declared.op.ValueId.{ValueId}
 use Rattle.hlfir_ops.specs.declared.op.Op.{Op}
-use Rattle.hlfir_meaning.specs.Environments.{scalar, scalar_in, Environment, of_variables}
+use Rattle.hlfir_meaning.specs.Environments.{scalar, scalar_in, Environment, of_variables, Value}
 use Rattle.hlfir_meaning.specs.Stage1.{walk}
 use Rattle.hlfir_meaning.specs.Statements.{bounds, loop_steps, loop_triplet}
 use Rattle.lower_values.specs.Scopes.{Scope}
@@ -40,18 +40,23 @@ use Rattle.world_laws.proofs.Listing.{triple-list, stride_of, triple_exprs}
 use Rattle.run_laws.proofs.Yielding.{YieldsScalars, list_yielded}
 use Rattle.run_laws.proofs.BoundsListed.{bounds-list, bounds_exprs}
 
--- ---- operands that hold these values
+-- ---- what operands hold
 
-abbrev AreScalars : Environment → List ValueId → List ℤ → Type 0
-AreScalars env [] [] = Unit {0}
-AreScalars env (v ∷ vs) (z ∷ zs) = (env v.number ≡ scalar z) × AreScalars env vs zs
-AreScalars env _ _ = ⊥
+abbrev scalars_in : Environment → List ValueId → List ℤ
+scalars_in env = map (λ v. scalar_in (env v.number))
 
-are_scalars : (env : Environment) (vs : List ValueId) (zs : List ℤ) → map (λ v. env v.number) vs ≡ map scalar zs → AreScalars env vs zs
-are_scalars env [] [] h = tt
-are_scalars env [] (z ∷ zs) h = absurd (cc)
-are_scalars env (v ∷ vs) [] h = absurd (cc)
-are_scalars env (v ∷ vs) (z ∷ zs) h = (cc, are_scalars env vs zs (cc))
+values_in : (vs : List Value) (zs : List ℤ) → vs ≡ map scalar zs → map scalar_in vs ≡ zs
+values_in vs zs h = ap (map scalar_in) h ∙ same zs where
+  same : (zs : List ℤ) → map scalar_in (map scalar zs) ≡ zs
+  same [] = refl
+  same (z ∷ zs) = ap (λ l. z ∷ l) (same zs)
+
+-- the operands hold these values
+scalars_are : (env : Environment) (vs : List ValueId) (zs : List ℤ) → map (λ v. env v.number) vs ≡ map scalar zs → scalars_in env vs ≡ zs
+scalars_are env vs zs h = one_map vs ∙ values_in (map (λ v. env v.number) vs) zs h where
+  one_map : (vs : List ValueId) → scalars_in env vs ≡ map scalar_in (map (λ v. env v.number) vs)
+  one_map [] = refl
+  one_map (v ∷ vs) = ap (λ l. scalar_in (env v.number) ∷ l) (one_map vs)
 
 abbrev triplet_of : List ℤ → Staged Triplet
 triplet_of (l ∷ u ∷ s ∷ more) = with_stride (record { l = l; u = u; s = s })
@@ -61,36 +66,22 @@ abbrev pairs : List ℤ → List Dim
 pairs (l ∷ u ∷ more) = declared_dim l u ∷ pairs more
 pairs _ = []
 
-steps_are : (env : Environment) (vs : List ValueId) (zs : List ℤ) → AreScalars env vs zs → loop_steps env vs ≡ triplet_of zs
-steps_are env [] [] h = refl
-steps_are env [] (z ∷ zs) h = absurd h
-steps_are env (l ∷ vs) [] h = absurd h
-steps_are env (l ∷ []) (x ∷ []) h = refl
-steps_are env (l ∷ []) (x ∷ y ∷ zs) h = absurd h.1
-steps_are env (l ∷ u ∷ vs) (x ∷ []) h = absurd h.1
-steps_are env (l ∷ u ∷ []) (x ∷ y ∷ []) h = refl
-steps_are env (l ∷ u ∷ []) (x ∷ y ∷ z ∷ zs) h = absurd h.1.1
-steps_are env (l ∷ u ∷ s ∷ vs) (x ∷ y ∷ []) h = absurd h.1.1
-steps_are env (l ∷ u ∷ s ∷ vs) (x ∷ y ∷ z ∷ zs) h =
-    ap (λ a. with_stride (record { l = a; u = scalar_in (env u.number); s = scalar_in (env s.number) })) (ap scalar_in h.0)
-    ∙ (ap (λ a. with_stride (record { l = x; u = a; s = scalar_in (env s.number) })) (ap scalar_in h.1.0) ∙ ap (λ a. with_stride (record { l = x; u = y; s = a })) (ap scalar_in h.1.1.0))
+steps_are : (env : Environment) (vs : List ValueId) → loop_steps env vs ≡ triplet_of (scalars_in env vs)
+steps_are env [] = refl
+steps_are env (l ∷ []) = refl
+steps_are env (l ∷ u ∷ []) = refl
+steps_are env (l ∷ u ∷ s ∷ vs) = refl
 
-bounds_are : (env : Environment) (vs : List ValueId) (zs : List ℤ) → AreScalars env vs zs → bounds env vs ≡ pairs zs
-bounds_are env [] [] h = refl
-bounds_are env [] (z ∷ zs) h = absurd h
-bounds_are env (l ∷ vs) [] h = absurd h
-bounds_are env (l ∷ []) (z ∷ []) h = refl
-bounds_are env (l ∷ []) (x ∷ y ∷ zs) h = absurd h.1
-bounds_are env (l ∷ u ∷ vs) (x ∷ []) h = absurd h.1
-bounds_are env (l ∷ u ∷ vs) (x ∷ y ∷ zs) h =
-    ap (λ a. declared_dim a (scalar_in (env u.number)) ∷ bounds env vs) (ap scalar_in h.0)
-    ∙ (ap (λ a. declared_dim x a ∷ bounds env vs) (ap scalar_in h.1.0) ∙ ap (λ l. declared_dim x y ∷ l) (bounds_are env vs zs h.1.1))
+bounds_are : (env : Environment) (vs : List ValueId) → bounds env vs ≡ pairs (scalars_in env vs)
+bounds_are env [] = refl
+bounds_are env (l ∷ []) = refl
+bounds_are env (l ∷ u ∷ vs) = ap (λ ds. declared_dim (scalar_in (env l.number)) (scalar_in (env u.number)) ∷ ds) (bounds_are env vs)
 
 -- ---- a region that yields them
 
-module _ {A : Type 0} (w : World) (n : ℕ) (ops : List Op) (f : Environment → List ValueId → A) (g : List ℤ → A) (same : (env : Environment) (vs : List ValueId) (zs : List ℤ) → AreScalars env vs zs → f env vs ≡ g zs) where
+module _ {A : Type 0} (w : World) (n : ℕ) (ops : List Op) (f : Environment → List ValueId → A) (g : List ℤ → A) (same : (env : Environment) (vs : List ValueId) → f env vs ≡ g (scalars_in env vs)) where
   yielded_as : {B : Type 0} (k : A → Staged B) (r : Staged (List ℤ)) → YieldsScalars w n ops r → (walk (of_variables w.vars) (region n ops) >>= (λ y. k (f y.env y.parts))) ≡ (r >>= (λ zs. k (g zs)))
-  yielded_as k (Ok zs) h = ap (λ r. r >>= (λ y. k (f y.env y.parts))) h.1 ∙ ap k (same h.0.env h.0.parts zs (are_scalars h.0.env h.0.parts zs h.2))
+  yielded_as k (Ok zs) h = ap (λ r. r >>= (λ y. k (f y.env y.parts))) h.1 ∙ ap k (same h.0.env h.0.parts ∙ ap g (scalars_are h.0.env h.0.parts zs h.2))
   yielded_as k (Err t) h = ap (λ r. r >>= (λ y. k (f y.env y.parts))) h
 
 -- ---- the sources

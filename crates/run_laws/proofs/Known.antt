@@ -8,7 +8,7 @@ use Rattle.ws_types.specs.declared.types.Entry.{Entry}
 use Rattle.ws_types.specs.declared.types.Row.{Row}
 use Rattle.ws_types.specs.declared.types.Standing.{Standing}
 use Rattle.ws_types.specs.declared.types.Standing.TheVariants.{Declared, Active, Index, Barred}
-use Rattle.ws_types.specs.Names.{Name, standing_of, name_type, name_faults, is_no_allocatable, is_constant}
+use Rattle.ws_types.specs.Names.{Name, standing_of, name_type, name_faults, is_no_allocatable, is_constant, entry_type}
 use Rattle.ws_types.specs.Operations.{scalar_faults, is_above}
 use Rattle.ws_sema.specs.declared.within.Within.{Within}
 use Rattle.ws_sema.specs.Statements.{is_other_bounds, allocatable_faults, variable_faults, loop_faults}
@@ -23,6 +23,7 @@ use Rattle.kind_laws.specs.Standing.{FitsEntry, EntryIsKnown, NameIsKnown, Knows
 use Rattle.kind_laws.proofs.NoFaults.{none_first, none_after, not_broken, not_false, impossible}
 use Rattle.kind_laws.proofs.ScopesKnown.{entry_variable}
 use Rattle.small_laws.proofs.Tables.{AreFit, IsFit, standing_fit}
+use Rattle.kind_laws.proofs.TypesTold.{no_rank}
 use Rattle.value_laws.specs.Variables.{Fits}
 use Rattle.world_laws.proofs.Fitting.{FitsWhereDeclared}
 
@@ -90,16 +91,13 @@ scalar_kind names x e d (kinds.Scalar f) same found h r = absurd h
 scalar_kind names x e d (kinds.Section f rank) same found h r = absurd h
 scalar_kind names x e d (kinds.Array f rank) same found h r = absurd h
 
-no_rank : (n : ℕ) → is_above 0 (Some (record { truth = false; rank = n })) ≡ false → n ≡ 0
-no_rank n h = grind (arith, h)
-
 scalar_at : (s : Scope) (w : Within) (line : ℕ) (x : Name) (st : Option Standing) → NameIsKnown s x st → loop_faults w line st ≡ [] → IsScalarVariable s.names x
 unfolding loop_faults variable_faults name_faults scalar_faults
 scalar_at s w line x None h f = impossible line kind.Undeclared (none_first _ _ (none_first _ _ (none_first _ _ (none_first _ _ f))))
 scalar_at s w line x (Some (Declared d)) h f =
     let variable = none_first _ _ f in
     let entry = entry_variable d.constant s.names x d (not_broken (is_constant (Some (Declared d))) _ _ (none_after _ _ (none_first _ _ variable))) h.1 in
-    scalar_kind s.names x d entry.0 entry.0.kind refl entry.1 entry.2 (no_rank d.rank (not_broken (is_above 0 (name_type (Some (Declared d)))) _ _ (none_after _ _ (none_after _ _ variable))))
+    scalar_kind s.names x d entry.0 entry.0.kind refl entry.1 entry.2 (no_rank (entry_type d) (not_broken (is_above 0 (name_type (Some (Declared d)))) _ _ (none_after _ _ (none_after _ _ variable))))
 scalar_at s w line x (Some (Active d)) h f = impossible line kind.DoVariable (none_after _ _ f)
 scalar_at s w line x (Some Index) h f = impossible line kind.DoVariable (none_after _ _ f)
 scalar_at s w line x (Some Barred) h f = impossible line kind.DoVariable (none_after _ _ (none_first _ _ (none_first _ _ (none_first _ _ f))))

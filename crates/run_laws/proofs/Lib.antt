@@ -19,7 +19,6 @@ pub mod Simple
 pub mod Serial
 pub mod Constructs
 pub mod Statements
-pub mod Extended
 pub mod Declares
 pub mod Constants
 pub mod Opening

@@ -27,7 +27,7 @@ use Rattle.lower_values.specs.Lowerings.{Lowering, done, ◌>>=◌ as ◌then◌
 use Rattle.lower_constructs.specs.Modules.{statement, statements, statement_list}
 use Rattle.small_laws.proofs.NoFaults.{none_first, none_after, impossible}
 use Rattle.kind_laws.proofs.Grammar.{loop_parts, shared_parts}
-use Rattle.kind_laws.proofs.Faultless.{loop_faultless, shared_faultless, allocate_faultless, deallocate_faultless, read_faultless}
+use Rattle.kind_laws.proofs.Faultless.{loop_faultless, shared_faultless, allocate_faultless, deallocate_faultless, read_faultless, IsOuter}
 use Rattle.world_laws.specs.Meanings.{ListsMean, LeftsMean, SimplesMean}
 use Rattle.run_laws.proofs.InOrder.{same-then}
 use Rattle.run_laws.proofs.Loops.{FitsState}
@@ -144,10 +144,6 @@ module _ (lists : ListsMean) (lefts : LeftsMean) (simples : SimplesMean) (g : So
         (then_runs g (statement line body) (statements rest) (program.statement g line body) (program.statements g rest) s n
         (body_runs k room t w line body s n outside free h.0 (none_first _ _ f))
         (block_runs k room t w rest s m (outside-later t s n m outside (omega arith)) free h.1 (none_after _ _ f)))
-
-  -- a statement of the program that stands in no construct
-  abbrev IsOuter : Stmt → Type 0
-  IsOuter s = IsBody anywhere 64 s.line s.body
 
   no_statements : (s : Scope) (n : ℕ) → (statement_list [] s n).ops ≡ []
   unfolding done

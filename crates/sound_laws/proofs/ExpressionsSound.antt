@@ -24,16 +24,10 @@ use Rattle.lower_values.specs.Scopes.{Scope, index_of}
 use Rattle.lower_values.specs.Values.{value}
 use Rattle.kind_laws.specs.Standing.{Knows}
 use Rattle.kind_laws.specs.Laws.{TypesAreKnown, KindsAreTypes}
+use Rattle.kind_laws.proofs.NoFaults.{none_first, none_after, not_broken, left_false, right_false}
+use Rattle.kind_laws.proofs.FormsMade.{some_subs}
 use Rattle.value_laws.specs.Sound.{IsVariable, IsItem, AreItems, IsSoundCall, IsSound, AreSound, AreSoundSubs, IsSoundGiven}
-use Rattle.sound_laws.proofs.NamesSound.{front-none, back-none, when-none, name-valued, part-variable, inquired-variable}
-
-or-left : (a b : Bool) → (a || b) ≡ false → a ≡ false
-or-left true b h = h
-or-left false b h = refl
-
-or-right : (a b : Bool) → (a || b) ≡ false → b ≡ false
-or-right true b h = absurd (true≢false h)
-or-right false b h = h
+use Rattle.sound_laws.proofs.NamesSound.{name-valued, part-variable, inquired-variable}
 
 not_above : (n m : ℕ) → nat_lt n m ≡ false → m ≤ n
 not_above n m h = grind (arith, h)
@@ -84,11 +78,11 @@ module _ (types : TypesAreKnown) (kinds : KindsAreTypes) (t : List Row) (line : 
 
   subscript_above : (ty : Option Typed) → subscript_faults line ty ≡ [] → is_above 1 ty ≡ false
   unfolding subscript_faults
-  subscript_above ty h = when-none (is_above 1 ty) line _ (back-none (when (is_other_type false ty) line _) (when (is_above 1 ty) line _) h)
+  subscript_above ty h = not_broken (is_above 1 ty) line _ (none_after (when (is_other_type false ty) line _) (when (is_above 1 ty) line _) h)
 
   scalar_above : (ty : Option Typed) → scalar_faults line ty ≡ [] → is_above 0 ty ≡ false
   unfolding scalar_faults
-  scalar_above ty h = when-none (is_above 0 ty) line _ (back-none (when (is_other_type false ty) line _) (when (is_above 0 ty) line _) h)
+  scalar_above ty h = not_broken (is_above 0 ty) line _ (none_after (when (is_other_type false ty) line _) (when (is_above 0 ty) line _) h)
 
   -- ---- constructors
 
@@ -109,15 +103,15 @@ module _ (types : TypesAreKnown) (kinds : KindsAreTypes) (t : List Row) (line : 
   items (more_exprs e es) a g h f =
       let b = with_argument a (typed t false e) in
       let low = arguments_rank es b in (
-        item_at e g.0 (front-none (faults t false line e) (all_faults t false line es) f) (argument_above a (typed t false e) (omega (arith, low, h))),
-        items es b g.1 h (back-none (faults t false line e) (all_faults t false line es) f),
+        item_at e g.0 (none_first (faults t false line e) (all_faults t false line es) f) (argument_above a (typed t false e) (omega (arith, low, h))),
+        items es b g.1 h (none_after (faults t false line e) (all_faults t false line es) f),
       )
 
   vector_rank : (many : ℕ) (a : Arguments) → vector_faults line false many a ≡ [] → a.rank ≤ 0
   unfolding vector_faults
-  vector_rank many a h = not_above 0 a.rank (when-none (nat_lt 0 a.rank) line kind.Unsupported
-      (front-none (when (nat_lt 0 a.rank) line kind.Unsupported) (when (a.truths && a.numbers) line kind.TypeWrong)
-      (front-none (when (nat_lt 0 a.rank) line kind.Unsupported ++ when (a.truths && a.numbers) line kind.TypeWrong) (when (nat_lt item_limit many) line kind.OverLimit) h)))
+  vector_rank many a h = not_above 0 a.rank (not_broken (nat_lt 0 a.rank) line kind.Unsupported
+      (none_first (when (nat_lt 0 a.rank) line kind.Unsupported) (when (a.truths && a.numbers) line kind.TypeWrong)
+      (none_first (when (nat_lt 0 a.rank) line kind.Unsupported ++ when (a.truths && a.numbers) line kind.TypeWrong) (when (nat_lt item_limit many) line kind.OverLimit) h)))
 
   -- ---- calls
 
@@ -132,10 +126,10 @@ module _ (types : TypesAreKnown) (kinds : KindsAreTypes) (t : List Row) (line : 
       let first = name_faults line st in
       let second = when outside line kind.RankWrong in
       let third = when owned line kind.NotAllocatable in
-      let three = front-none (first ++ second ++ third) (when (has_wide_dimension all) line kind.OverLimit) f in
-      let two = front-none (first ++ second) third three in
-      inquired-variable s x line st c all (knows x) (apart x) (front-none first second two)
-      (when-none outside line kind.RankWrong (back-none first second two)) (when-none owned line kind.NotAllocatable (back-none (first ++ second) third three))
+      let three = none_first (first ++ second ++ third) (when (has_wide_dimension all) line kind.OverLimit) f in
+      let two = none_first (first ++ second) third three in
+      inquired-variable s x line st c all (knows x) (apart x) (none_first first second two)
+      (not_broken outside line kind.RankWrong (none_after first second two)) (not_broken owned line kind.NotAllocatable (none_after (first ++ second) third three))
   inquiry_sound w es named f = absurd named
 
   abbrev OwnOrParts : Bool → List Refusal → List Refusal → Type 0
@@ -144,8 +138,8 @@ module _ (types : TypesAreKnown) (kinds : KindsAreTypes) (t : List Row) (line : 
 
   called_by : (b c : Bool) (own parts other : List Refusal) → (if b then (if c then own else (parts ++ other)) else when true line kind.Unsupported) ≡ [] → OwnOrParts c own parts
   called_by true true own parts other h = h
-  called_by true false own parts other h = front-none parts other h
-  called_by false c own parts other h = absurd (true≢false (when-none true line kind.Unsupported h))
+  called_by true false own parts other h = none_first parts other h
+  called_by false c own parts other h = absurd (true≢false (not_broken true line kind.Unsupported h))
 
   call_faults_none : {k : _} (w : CallWord) (es : Exprs k) → called_faults t false line w (listed es) (all_faults t false line es) (arguments t false no_arguments es) ≡ [] → OwnOrParts (is_inquiry w) (inquiry_faults line w (first_standing t (listed es)) (listed es)) (all_faults t false line es)
   call_faults_none w es f = called_by (takes w (listed es)) (is_inquiry w) (inquiry_faults line w (first_standing t (listed es)) (listed es)) (all_faults t false line es) (call_faults line false w (arguments t false no_arguments es)) f
@@ -173,13 +167,9 @@ module _ (types : TypesAreKnown) (kinds : KindsAreTypes) (t : List Row) (line : 
 
   -- ---- designators
 
-  some_subs : {k : _} (subs : Subs k) → HasSubs subs → 0 < how_many subs
-  some_subs end_subs h = absurd h
-  some_subs (more_subs x xs) h = omega arith
-
   part_none : (ty : Option Typed) (many : ℕ) → part_faults line ty many ≡ [] → is_other_number ty many ≡ false
   unfolding part_faults
-  part_none ty many h = when-none (is_other_number ty many) line kind.RankWrong h
+  part_none ty many h = not_broken (is_other_number ty many) line kind.RankWrong h
 
   -- ---- the induction
 
@@ -194,46 +184,46 @@ module _ (types : TypesAreKnown) (kinds : KindsAreTypes) (t : List Row) (line : 
         let first = named_faults t line x in
         let second = subs_faults t false line subs in
         let third = part_faults line (name_type (standing_of t x)) (how_many subs) in
-        let two = front-none (first ++ second) third f in
-        let v = part-variable s x line (standing_of t x) (how_many subs) (knows x) (apart x) (front-none first second two) (part_none (name_type (standing_of t x)) (how_many subs) (back-none (first ++ second) third f)) (some_subs subs g.1) in
-        (v.0, v.1, v.2, subscripts-sound subs g.2 (back-none first second two))
+        let two = none_first (first ++ second) third f in
+        let v = part-variable s x line (standing_of t x) (how_many subs) (knows x) (apart x) (none_first first second two) (part_none (name_type (standing_of t x)) (how_many subs) (none_after (first ++ second) third f)) (some_subs subs g.1) in
+        (v.0, v.1, v.2, subscripts-sound subs g.2 (none_after first second two))
     expression-sound (Call' w _ es) g f = call_sound w es g.0 (call_faults_none w es f) (λ all. arguments-sound es g.1 all)
     expression-sound (Vector' _ es) g f =
         let first = all_faults t false line es in
         let second = vector_faults line false (length (listed es)) (arguments t false no_arguments es) in
-        let all = front-none first second f in
-        (arguments-sound es g.1 all, items es no_arguments g.1 (vector_rank (length (listed es)) (arguments t false no_arguments es) (back-none first second f)) all)
+        let all = none_first first second f in
+        (arguments-sound es g.1 all, items es no_arguments g.1 (vector_rank (length (listed es)) (arguments t false no_arguments es) (none_after first second f)) all)
     expression-sound (paren e) g f = expression-sound e g f
-    expression-sound (unary op e) g f = expression-sound e g (front-none (faults t false line e) (unary_faults line op (typed t false e)) f)
+    expression-sound (unary op e) g f = expression-sound e g (none_first (faults t false line e) (unary_faults line op (typed t false e)) f)
     expression-sound (binary op a b) g f =
-        let two = front-none (faults t false line a ++ faults t false line b) (binary_faults line op (typed t false a) (typed t false b)) f in
-        (expression-sound a g.0 (front-none (faults t false line a) (faults t false line b) two), expression-sound b g.1 (back-none (faults t false line a) (faults t false line b) two))
+        let two = none_first (faults t false line a ++ faults t false line b) (binary_faults line op (typed t false a) (typed t false b)) f in
+        (expression-sound a g.0 (none_first (faults t false line a) (faults t false line b) two), expression-sound b g.1 (none_after (faults t false line a) (faults t false line b) two))
 
     pub arguments-sound : {k : _} (es : Exprs k) → AreExprs es → all_faults t false line es ≡ [] → AreSound true s es
     arguments-sound end_exprs g f = tt
-    arguments-sound (more_exprs e es) g f = (expression-sound e g.0 (front-none (faults t false line e) (all_faults t false line es) f), arguments-sound es g.1 (back-none (faults t false line e) (all_faults t false line es) f))
+    arguments-sound (more_exprs e es) g f = (expression-sound e g.0 (none_first (faults t false line e) (all_faults t false line es) f), arguments-sound es g.1 (none_after (faults t false line e) (all_faults t false line es) f))
 
     pub subscripts-sound : {k : _} (subs : Subs k) → AreSubs subs → subs_faults t false line subs ≡ [] → AreSoundSubs true s subs
     subscripts-sound end_subs g f = tt
     subscripts-sound (more_subs (sub.One e) xs) g f =
-        let here = front-none (sub_faults t false line (sub.One e)) (subs_faults t false line xs) f in
-        let none_in = front-none (faults t false line e) (subscript_faults line (typed t false e)) here in (
-          (expression-sound e g.0 none_in, above_at e 1 g.0 none_in (subscript_above (typed t false e) (back-none (faults t false line e) (subscript_faults line (typed t false e)) here))),
-          subscripts-sound xs g.1 (back-none (sub_faults t false line (sub.One e)) (subs_faults t false line xs) f),
+        let here = none_first (sub_faults t false line (sub.One e)) (subs_faults t false line xs) f in
+        let none_in = none_first (faults t false line e) (subscript_faults line (typed t false e)) here in (
+          (expression-sound e g.0 none_in, above_at e 1 g.0 none_in (subscript_above (typed t false e) (none_after (faults t false line e) (subscript_faults line (typed t false e)) here))),
+          subscripts-sound xs g.1 (none_after (sub_faults t false line (sub.One e)) (subs_faults t false line xs) f),
         )
     subscripts-sound (more_subs (sub.Range' l u st) xs) g f =
-        let here = front-none (sub_faults t false line (sub.Range' l u st)) (subs_faults t false line xs) f in
-        let two = front-none (given_faults t false line l ++ given_faults t false line u) (given_faults t false line st) here in (
+        let here = none_first (sub_faults t false line (sub.Range' l u st)) (subs_faults t false line xs) f in
+        let two = none_first (given_faults t false line l ++ given_faults t false line u) (given_faults t false line st) here in (
           (
-            given-sound l g.0 (front-none (given_faults t false line l) (given_faults t false line u) two),
-            given-sound u g.1 (back-none (given_faults t false line l) (given_faults t false line u) two),
-            given-sound st g.2 (back-none (given_faults t false line l ++ given_faults t false line u) (given_faults t false line st) here),
+            given-sound l g.0 (none_first (given_faults t false line l) (given_faults t false line u) two),
+            given-sound u g.1 (none_after (given_faults t false line l) (given_faults t false line u) two),
+            given-sound st g.2 (none_after (given_faults t false line l ++ given_faults t false line u) (given_faults t false line st) here),
           ),
-          subscripts-sound xs g.3 (back-none (sub_faults t false line (sub.Range' l u st)) (subs_faults t false line xs) f),
+          subscripts-sound xs g.3 (none_after (sub_faults t false line (sub.Range' l u st)) (subs_faults t false line xs) f),
         )
 
     pub given-sound : (x : Given) → IsGiven x → given_faults t false line x ≡ [] → IsSoundGiven true s x
     given-sound absent g f = tt
     given-sound (given e) g f =
-        let none_in = front-none (faults t false line e) (scalar_faults line (typed t false e)) f in
-        (expression-sound e g none_in, item_at e g none_in (scalar_above (typed t false e) (back-none (faults t false line e) (scalar_faults line (typed t false e)) f)))
+        let none_in = none_first (faults t false line e) (scalar_faults line (typed t false e)) f in
+        (expression-sound e g none_in, item_at e g none_in (scalar_above (typed t false e) (none_after (faults t false line e) (scalar_faults line (typed t false e)) f)))

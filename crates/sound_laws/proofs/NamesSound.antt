@@ -21,28 +21,7 @@ use Rattle.lower_values.specs.declared.operand.Operand.{Operand}
 use Rattle.lower_values.specs.References.{variable_of}
 use Rattle.lower_values.specs.Scopes.{Scope, index_of}
 use Rattle.kind_laws.specs.Standing.{FitsEntry, ConstantIsKnown, EntryIsKnown, NameIsKnown}
-
--- ---- no faults
-
-abbrev IsEmpty : {A : Type 0} → List A → Type 0
-IsEmpty [] = Unit {0}
-IsEmpty (x ∷ xs) = ⊥
-
-pub front-none : {A : Type 0} (xs ys : List A) → xs ++ ys ≡ [] → xs ≡ []
-front-none [] ys h = refl
-front-none (x ∷ xs) ys h = absurd (subst IsEmpty (sym h) tt)
-
-pub back-none : {A : Type 0} (xs ys : List A) → xs ++ ys ≡ [] → ys ≡ []
-back-none xs ys h = ap (λ zs. zs ++ ys) (sym (front-none xs ys h)) ∙ h
-
-abbrev IsSomeFault : List Refusal → Type 0
-IsSomeFault [] = ⊥
-IsSomeFault (r ∷ rs) = Unit {0}
-
-pub when-none : (b : Bool) (line : ℕ) (k : RefusalKind) → when b line k ≡ [] → b ≡ false
-unfolding when
-when-none true line k h = absurd (subst IsSomeFault h tt)
-when-none false line k h = refl
+use Rattle.kind_laws.proofs.NoFaults.{none_first, none_after, not_broken}
 
 -- ---- names
 
@@ -66,8 +45,8 @@ module _ (s : Scope) (x : Name) (line : ℕ) where
   name-valued (Some (Declared e)) h f = constant_valued e.constant e.truth e h.1 refl
   name-valued (Some (Active e)) h f = constant_valued false e.truth e h.2 refl
   name-valued (Some Index) h f = ap has_no_value h.2
-  name-valued (Some Barred) h f = absurd (true≢false (when-none true line _ (back-none (when false line _) (when true line _) f)))
-  name-valued None h f = absurd (true≢false (when-none true line _ (front-none (when true line _) (when false line _) f)))
+  name-valued (Some Barred) h f = absurd (true≢false (not_broken true line _ (none_after (when false line _) (when true line _) f)))
+  name-valued None h f = absurd (true≢false (not_broken true line _ (none_first (when true line _) (when false line _) f)))
 
   -- a variable of this rank
   abbrev pub IsVariableOf : ℕ → Type 0
@@ -96,8 +75,8 @@ module _ (s : Scope) (x : Name) (line : ℕ) where
   part-variable (Some (Declared e)) n h apart f other some = let same = same_rank e.rank n other in subst IsVariableOf same (entry_variable e.constant e h.1 (λ _ is _. omega (arith, is, same, some)))
   part-variable (Some (Active e)) n h apart f other some = subst IsVariableOf (same_rank e.rank n other) (entry_variable false e h.2 (λ is _ _. true≢false (sym is)))
   part-variable (Some Index) n h apart f other some = absurd (no_index h.0 h.1 apart)
-  part-variable (Some Barred) n h apart f other some = absurd (true≢false (when-none true line _ (back-none (when false line _) (when true line _) f)))
-  part-variable None n h apart f other some = absurd (true≢false (when-none true line _ (front-none (when true line _) (when false line _) f)))
+  part-variable (Some Barred) n h apart f other some = absurd (true≢false (not_broken true line _ (none_after (when false line _) (when true line _) f)))
+  part-variable None n h apart f other some = absurd (true≢false (not_broken true line _ (none_first (when true line _) (when false line _) f)))
 
   -- ---- inquiries
 
@@ -128,5 +107,5 @@ module _ (s : Scope) (x : Name) (line : ℕ) where
   inquired-variable (Some (Declared e)) c es h apart f outside owned = inquired_entry e c es h.1 outside owned
   inquired-variable (Some (Active e)) c es h apart f outside owned = some_variable e.rank (entry_variable false e h.2 (λ is _ _. true≢false (sym is)))
   inquired-variable (Some Index) c es h apart f outside owned = absurd (no_index h.0 h.1 apart)
-  inquired-variable (Some Barred) c es h apart f outside owned = absurd (true≢false (when-none true line _ (back-none (when false line _) (when true line _) f)))
-  inquired-variable None c es h apart f outside owned = absurd (true≢false (when-none true line _ (front-none (when true line _) (when false line _) f)))
+  inquired-variable (Some Barred) c es h apart f outside owned = absurd (true≢false (not_broken true line _ (none_after (when false line _) (when true line _) f)))
+  inquired-variable None c es h apart f outside owned = absurd (true≢false (not_broken true line _ (none_first (when true line _) (when false line _) f)))

@@ -1,13 +1,13 @@
 -- In a source without variables no variable is used.
-use Rattle.std.proofs.Common.{◌≡◌, refl, ap, ◌∙◌, ℕ, zero, suc, Bool, true, false, List, [], ◌∷◌, ◌++◌, Option, Some, None, arith}
-use Rattle.std.specs.Prelude.{not, ◌&&◌, ◌||◌, nat_eq, nat_lt, if◌then◌else◌}
+use Rattle.std.proofs.Common.{◌≡◌, refl, ap, ◌∙◌, ℕ, suc, Bool, true, false, List, [], ◌∷◌, ◌++◌, Option, Some, None, arith}
+use Rattle.std.specs.Prelude.{not, ◌&&◌, nat_eq, if◌then◌else◌}
 use Rattle.std.proofs.lemmas.Bool.{true≢false, false≢true, ne_eqb}
 use mathlib.Core.Former.{Count}
 use Rattle.ws_base.specs.declared.refusal.Refusal.{Refusal}
 use Rattle.ws_base.specs.declared.refusal.RefusalKind.TheVariants as kind
 use Rattle.ws_base.specs.declared.op.CallWord.{CallWord}
 use Rattle.ws_tree.specs.declared.expr.Expr.{Expr}
-use Rattle.ws_tree.specs.declared.expr.Expr.TheVariants.{Number, Named}
+use Rattle.ws_tree.specs.declared.expr.Expr.TheVariants.{Named}
 use Rattle.ws_tree.specs.Trees.{Subs, end_subs, more_subs}
 use Rattle.ws_tree.specs.Grammatical.{HasSubs}
 use Rattle.ws_types.specs.declared.types.Entry.{Entry}
@@ -21,6 +21,7 @@ use Rattle.ws_types.specs.Operations.{is_other_number, part_faults, is_inquiry, 
 use Rattle.ws_types.specs.Expressions.{how_many, named_type, first_standing, named_faults, called_faults}
 use Rattle.ws_sema.specs.Statements.{variable_faults, loop_faults, allocatable_faults}
 use Rattle.kind_laws.proofs.NoFaults.{none_first, none_after, broken}
+use Rattle.kind_laws.proofs.ScalarRanks.{outside_zero}
 use Rattle.use_laws.proofs.Standing.{IsNoVariable, HasNoVariables}
 
 -- a named constant
@@ -85,16 +86,6 @@ no-part t line x subs none h f g =
 
 -- ---- it has no bounds
 
-any-dimension : (d : ℕ) → (nat_eq d 0 || nat_lt 0 d) ≡ true
-any-dimension zero = refl
-any-dimension (suc d) = grind arith
-
-outside-none : (es : List Expr) → is_outside 0 es ≡ true
-outside-none [] = refl
-outside-none (x ∷ []) = refl
-outside-none (x ∷ Number d ∷ es) = any-dimension d
-outside-none (x ∷ e ∷ es) = refl
-
 first-none : (t : List Row) (es : List Expr) → HasNoVariables t → IsNoVariable (first_standing t es)
 first-none t [] none = tt
 first-none t (Named x ∷ es) none = none.each x
@@ -103,7 +94,7 @@ first-none t (e ∷ es) none = tt
 inquired : (line : ℕ) (w : Bool) (s : Option Standing) (es : List Expr) → IsConstant s → when (not w && is_outside_type (name_type s) es) line kind.RankWrong ≡ [] → when (w && is_no_allocatable s) line kind.NotAllocatable ≡ [] → ⊥
 inquired line true s es c f g = broken (is_no_allocatable s) line kind.NotAllocatable (constant-fixed s c) g
 inquired line false s es c f g =
-    let same : is_outside_type (name_type s) es ≡ true = ap (λ o. is_outside_type (name_type o) es) c.stands ∙ (ap (λ r. is_outside r es) c.rank ∙ outside-none es) in
+    let same : is_outside_type (name_type s) es ≡ true = ap (λ o. is_outside_type (name_type o) es) c.stands ∙ (ap (λ r. is_outside r es) c.rank ∙ outside_zero es) in
     broken (is_outside_type (name_type s) es) line kind.RankWrong same f
 
 pub no-inquiry : (t : List Row) (line : ℕ) (w : CallWord) (es : List Expr) → HasNoVariables t → inquiry_faults line w (first_standing t es) es ≡ [] → ⊥

@@ -27,7 +27,7 @@ use Rattle.use_laws.proofs.Walking.{Lowers, of_operand, nothing_held, lowers-don
 use Rattle.use_laws.proofs.Holding.{IsRegion, lowers-statement}
 use Rattle.use_laws.proofs.Operations.{lowers-constant}
 use Rattle.use_laws.proofs.Values.{lowers-value}
-use Rattle.use_laws.proofs.Statements.{any-clean, region-value, region-all_yielded, region-done, region-then, of_values, joined-lowers, region-plain}
+use Rattle.use_laws.proofs.Statements.{any-clean, region-value, region-all_yielded, region-done, region-then, of_values, joined-lowers, region-plain, value-lowers}
 use Rattle.use_laws.proofs.Parts.{IsRight, AreRight, ElsesAreRight, where_mask, where_block, where_rest, unused_forall, unused_loop, shared_block, first_right, rest_right, else_mask, else_block, else_rest, last_block, last_rest}
 
 abbrev pub IsRightStmt : List Row → Stmt → Type 0
@@ -37,19 +37,16 @@ module _ (k : ℕ) (t : List Row) where
   -- ---- headers
 
   module _ (some : HasNoVariables t → ⊥) where
-    value-lowers : (e : Expr) (s : Scope) (n : ℕ) (D : List ℕ) → Stands k t D s → Lowers k s n D (value e) 0 of_operand
-    value-lowers e s n D stands = lowers-value k t 0 e s n D stands (any-clean t 0 e some)
-
     stride-lowers : (e : Option Expr) (s : Scope) (n : ℕ) (D : List ℕ) → Stands k t D s → Lowers k s n D (stride e) 0 of_operand
     stride-lowers None s n D stands = lowers-constant k s n D I32 (pos 1)
-    stride-lowers (Some e) s n D stands = value-lowers e s n D stands
+    stride-lowers (Some e) s n D stands = value-lowers k t some e s n D stands
 
     triple-lowers : (l u : Expr) (st : Option Expr) (s : Scope) (n : ℕ) (D : List ℕ) → Stands k t D s → Lowers k s n D (triple l u st) 0 numbers
     unfolding triple
     triple-lowers l u st s n D stands =
-        lowers-then k s n D (value l) (λ x. value u >>= (λ y. stride st >>= (λ z. done (x.value ∷ y.value ∷ z.value ∷ [])))) 0 0 0 of_operand numbers refl (value-lowers l s n D stands)
+        lowers-then k s n D (value l) (λ x. value u >>= (λ y. stride st >>= (λ z. done (x.value ∷ y.value ∷ z.value ∷ [])))) 0 0 0 of_operand numbers refl (value-lowers k t some l s n D stands)
         (λ x m E f i. let there = stands-grown k t D E s f stands in
-        lowers-then k s m E (value u) (λ y. stride st >>= (λ z. done (x.value ∷ y.value ∷ z.value ∷ []))) (hits k (of_operand x) + 0) 0 (hits k (of_operand x)) of_operand numbers (omega arith) (value-lowers u s m E there)
+        lowers-then k s m E (value u) (λ y. stride st >>= (λ z. done (x.value ∷ y.value ∷ z.value ∷ []))) (hits k (of_operand x) + 0) 0 (hits k (of_operand x)) of_operand numbers (omega arith) (value-lowers k t some u s m E there)
         (λ y a F g j. lowers-then k s a F (stride st) (λ z. done (x.value ∷ y.value ∷ z.value ∷ [])) (hits k (of_operand y) + hits k (of_operand x)) 0 (hits k (of_operand y) + hits k (of_operand x)) of_operand numbers (omega arith)
         (stride-lowers st s a F (stands-grown k t E F s g there))
         (λ z b G e last. lowers-done k s b G (x.value ∷ y.value ∷ z.value ∷ []) (hits k (of_operand z) + (hits k (of_operand y) + hits k (of_operand x))) numbers

@@ -23,20 +23,12 @@ use Rattle.hlfir_ops.proofs.Numbered.{op_numbers-op_of}
 use Rattle.kind_laws.proofs.Sited.{defined_by}
 use Rattle.lower_values.specs.declared.names.Variable.{Variable}
 use Rattle.lower_assign.specs.Known.{declared_kind, variable_kind, declares_variable, if_variable, variable_decls, numbered}
-use Rattle.lower_values.specs.Lowerings.{done, ◌>>=◌, giving}
-use Rattle.lower_constructs.specs.Modules.{declaration}
 use Rattle.use_laws.proofs.Counting.{hit, hit-other, IsArrayAt}
 use Rattle.use_laws.proofs.Defined.{In}
 use Rattle.kind_laws.proofs.NoFaults.{none_first, none_after, not_broken}
-use Rattle.kind_laws.proofs.DeclaresFound.{declare_op, GivesDeclares}
+use Rattle.kind_laws.proofs.DeclaresFound.{declare_op}
 use Rattle.use_laws.proofs.Uses.{Uses, uses-none, uses-append, uses-op, inner-none, op_kinds-is}
 use Rattle.use_laws.proofs.Standing.{IsNoVariable, HasNoVariables, IsFreeVariable}
-
--- ---- their ops
-
-pub gives_declares : GivesDeclares declaration
-unfolding declaration giving done ◌>>=◌
-gives_declares k v s n = refl
 
 -- it is no value of an array expression
 abbrev pub IsPlain : Variable → Type 0

@@ -84,6 +84,9 @@ module _ (used : List ℕ) where
   unfolding trees_open out-Op denote.Hole.Carrier.out
   kind-of_parts w line operands kind g regions = refl
 
+  both-once : (here there : List Site) → list_all used_there here ≡ true → list_all used_there there ≡ true → list_all used_there (here ++ there) ≡ true
+  both-once here there h g = list_all-append used_there here there ∙ and_from (list_all used_there here) (list_all used_there there) h g
+
   mutual
     op_once : (p : Place) (op : Op) → AreUsedOnce p.number (op_kinds op) → list_all used_there (op_sites p op) ≡ true
     op_once p (Op' w line operands kind g regions) h =
@@ -99,8 +102,7 @@ module _ (used : List ℕ) where
         let both = once-first n (names ++ ops_kinds ops) (regions_kinds w (suc k) regions) h in
         let here = ops_sites (around_in a w k) [] (length (names_in w k) + n) (defined ++ from_number n (names_in w k)) ops in
         let there = regions_sites a w (suc k) ((length (names_in w k) + ops_numbers ops) + n) defined regions in
-        list_all-append used_there here there
-        ∙ and_from (list_all used_there here) (list_all used_there there)
+        both-once here there
         (ops_once (around_in a w k) [] (length (names_in w k) + n) (defined ++ from_number n (names_in w k)) ops (once-rest n (length (names_in w k) + n) names (ops_kinds ops) (omega (arith, many)) both))
         (regions_once a w (suc k) ((length (names_in w k) + ops_numbers ops) + n) defined regions
         (once-rest n ((length (names_in w k) + ops_numbers ops) + n) (names ++ ops_kinds ops) (regions_kinds w (suc k) regions) (omega (arith, length-append names (ops_kinds ops), many, ops_kinds-length ops)) h))
@@ -110,8 +112,7 @@ module _ (used : List ℕ) where
     ops_once a before n defined (more_ops op ops) h =
         let place : Place = record { around = a; before = before; number = n; defined = defined } in
         let there = ops_sites a (before ++ op ∷ []) (op_numbers op + n) (defined ++ own_defined n (out-Op op).kind) ops in
-        list_all-append used_there (op_sites place op) there
-        ∙ and_from (list_all used_there (op_sites place op)) (list_all used_there there) (op_once place op (once-first n (op_kinds op) (ops_kinds ops) h))
+        both-once (op_sites place op) there (op_once place op (once-first n (op_kinds op) (ops_kinds ops) h))
         (ops_once a (before ++ op ∷ []) (op_numbers op + n) (defined ++ own_defined n (out-Op op).kind) ops
         (once-rest n (op_numbers op + n) (op_kinds op) (ops_kinds ops) (omega (arith, op_kinds-length op)) h))
 
@@ -120,8 +121,7 @@ module _ (used : List ℕ) where
   list_once a before n defined (op ∷ ops) h =
       let place : Place = record { around = a; before = before; number = n; defined = defined } in
       let there = sites_of a (before ++ op ∷ []) (op_numbers op + n) (defined ++ own_defined n (out-Op op).kind) ops in
-      list_all-append used_there (op_sites place op) there
-      ∙ and_from (list_all used_there (op_sites place op)) (list_all used_there there) (op_once place op (once-first n (op_kinds op) (kinds_of ops) h))
+      both-once (op_sites place op) there (op_once place op (once-first n (op_kinds op) (kinds_of ops) h))
       (list_once a (before ++ op ∷ []) (op_numbers op + n) (defined ++ own_defined n (out-Op op).kind) ops
       (once-rest n (op_numbers op + n) (op_kinds op) (kinds_of ops) (omega (arith, op_kinds-length op)) h))
 

@@ -20,14 +20,14 @@ use Rattle.kind_laws.proofs.Sited.{defined_by}
 use Rattle.lower_assign.specs.Known.{numbered, variable_decls, names_of}
 use Rattle.lower_values.specs.Scopes.{Scope, scope_at}
 use Rattle.lower_values.specs.Lowerings.{◌>>=◌}
-use Rattle.lower_constructs.specs.Modules.{declaration, statement_list, lowered}
+use Rattle.lower_constructs.specs.Modules.{statement_list, lowered}
 use Rattle.use_laws.proofs.Counting.{IsArrayAt, array-first, array-rest}
 use Rattle.use_laws.proofs.Standing.{HasNoVariables, IsFree, IsFreeVariable, Stands}
 use Rattle.use_laws.proofs.Uses.{Uses, kinds_of-length, uses-append}
 use Rattle.kind_laws.proofs.NoFaults.{none_first, none_after}
 use Rattle.kind_laws.proofs.DeclaresFound.{declare_op, declares-ops}
 use Rattle.use_laws.proofs.Constructs.{IsRightStmt, region-list}
-use Rattle.use_laws.proofs.Declares.{gives_declares, declares-kinds, declares-use, numbered-plain, declared-free, no_variables}
+use Rattle.use_laws.proofs.Declares.{declares-kinds, declares-use, numbered-plain, declared-free, no_variables}
 
 -- ---- the statements of an accepted source
 
@@ -64,7 +64,7 @@ module _ (t : Tree) (accepted : IsAccepted t) (k : ℕ) where
 
   lowered-ops : (lowered t).ops ≡ declares ++ body
   unfolding lowered ◌>>=◌ outer declares body
-  lowered-ops = ap (λ l. l ++ (statement_list t.body outer (0 + numbers_of l)).ops) (declares-ops declaration gives_declares outer.names.variables 0 0 outer)
+  lowered-ops = ap (λ l. l ++ (statement_list t.body outer (0 + numbers_of l)).ops) (declares-ops outer.names.variables 0 0 outer)
 
   both-use : IsArrayAt k 0 (kinds_of (declares ++ body)) → Uses k 0 [] (declares ++ body) 0 0
   unfolding declares outer body

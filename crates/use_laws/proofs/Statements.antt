@@ -136,7 +136,7 @@ module _ (k : ℕ) (t : List Row) where
         (λ x m E f i. lowers-then k s m E q (λ y. done (x.value ∷ y.value ∷ [])) (hits k (of_operand x) + 0) 0 (hits k (of_operand x)) of_operand numbers (omega arith) (h s m E (stands-grown k t D E s f stands))
         (λ y l F f' j. lowers-done k s l F (x.value ∷ y.value ∷ []) (hits k (of_operand y) + hits k (of_operand x)) numbers (f'.kept x.value.number i.0, j) (omega arith)))
 
-    value-lowers : (e : Expr) (s : Scope) (n : ℕ) (D : List ℕ) → Stands k t D s → Lowers k s n D (value e) 0 of_operand
+    pub value-lowers : (e : Expr) (s : Scope) (n : ℕ) (D : List ℕ) → Stands k t D s → Lowers k s n D (value e) 0 of_operand
     value-lowers e s n D stands = lowers-value k t 0 e s n D stands (any-clean t 0 e some)
 
     bounds_of-lowers : (b : Bound) (s : Scope) (n : ℕ) (D : List ℕ) → Stands k t D s → Lowers k s n D (bounds_of b) 0 numbers

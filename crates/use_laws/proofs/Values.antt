@@ -41,6 +41,7 @@ use Rattle.use_laws.proofs.Operations.{of_operands, lowers-constant, lowers-in_p
 use Rattle.use_laws.proofs.References.{lowers-reference, lowers-loaded, lowers-named, lowers-bound, lowers-designated, lowers-inquiry}
 use Rattle.kind_laws.proofs.NoFaults.{none_first, none_after}
 use Rattle.kind_laws.proofs.FormsMade.{is_nesting}
+use Rattle.kind_laws.proofs.ExpressionsMade.{HasOne}
 use Rattle.use_laws.proofs.Clean.{no-part, no-inquiry, called-inquiry, called-parts}
 
 -- ---- what is held of lists and subscripts
@@ -140,17 +141,11 @@ subs-parts (sub.Range' l u s) xs h = ((h.0, h.1, h.2), h.3)
 part-some : (t : List Row) (line : ℕ) (x : Name) (c : _) (subs : _) → IsClean t line (Part' x c subs) → HasNoVariables t → ⊥
 part-some t line x c subs h none = let f = (h none).1 in no-part t line x subs none (h none).0.1 (none_first _ _ (none_first _ _ f)) (none_after _ _ f)
 
--- MIN or MAX of some arguments
-abbrev IsStarted : {m : Count} → Option Operand → Exprs m → Type 0
-IsStarted (Some x) es = Unit {0}
-IsStarted None end_exprs = ⊥
-IsStarted None (more_exprs e es) = Unit {0}
-
-some-exprs : {m : Count} (es : Exprs m) → 2 ≤ grammar.count es → IsStarted None es
+some-exprs : {m : Count} (es : Exprs m) → 2 ≤ grammar.count es → HasOne None es
 some-exprs end_exprs h = omega arith
 some-exprs (more_exprs e es) h = tt
 
-nests-started : {m : Count} (w : CallWord) (op : ValueBinary) (es : Exprs m) → nesting_of w ≡ Some op → Takes w es → IsStarted None es
+nests-started : {m : Count} (w : CallWord) (op : ValueBinary) (es : Exprs m) → nesting_of w ≡ Some op → Takes w es → HasOne None es
 nests-started word.Min op es e h = some-exprs es h
 nests-started word.Max op es e h = some-exprs es h
 nests-started _ op es e h = cc
@@ -200,7 +195,7 @@ module _ (k : ℕ) (t : List Row) (line : ℕ) where
         (lowers-values es s m E (stands-grown k t D E s g stands) (λ none. ((h none).0.1, none_after _ _ (h none).1)))
         (λ xs l F f j. lowers-done k s l F (x ∷ xs) (hits k (of_operands xs) + hits k (of_operand x)) of_operands (f.kept x.value.number i.0, j) (omega arith)))
 
-    lowers-nested : {m : Count} (es : Exprs m) (op : ValueBinary) (before : Option Operand) (s : Scope) (n : ℕ) (D : List ℕ) → Stands k t D s → AllIn D (of_option before) → (HasNoVariables t → IsStarted before es) → AreClean t line es →
+    lowers-nested : {m : Count} (es : Exprs m) (op : ValueBinary) (before : Option Operand) (s : Scope) (n : ℕ) (D : List ℕ) → Stands k t D s → AllIn D (of_option before) → (HasNoVariables t → HasOne before es) → AreClean t line es →
         Lowers k s n D (nested op before es) (hits k (of_option before)) of_operand
     lowers-nested end_exprs op (Some x) s n D stands i started h = lowers-done k s n D x (hits k (of_operand x)) of_operand i refl
     lowers-nested end_exprs op None s n D stands i started h =

@@ -19,6 +19,7 @@ use Rattle.hlfir_ops.specs.declared.what.Reduction.TheVariants as totals
 use Rattle.hlfir_ops.specs.Numbers.{numbers_of}
 use Rattle.hlfir_meaning.specs.Environments.{Environment}
 use Rattle.hlfir_meaning.specs.Operators.{reduction_word}
+use Rattle.hlfir_meaning.specs.Stage1.{stage1}
 use Rattle.lower_values.specs.declared.operand.Operand.{Operand}
 use Rattle.lower_values.specs.Scopes.{Scope}
 use Rattle.lower_values.specs.Lowerings.{Lowering, ◌>>=◌ as ◌then◌}
@@ -53,7 +54,7 @@ module _ (vectors : List ℕ) (base : ℕ) (s : Scope) (w : World) (n : ℕ) (en
   at_once : {k : _} (c : CallWord) (es : Exprs k) → Finishes c es → Each es → Results (values es then call_on c) (source.walks w es >>= source.called c)
   at_once c es finish each =
       subst (λ r. Does vectors s n env (values es then call_on c) r (λ x t m after. StandsIf b base n m after x t)) (sym (settle-then b (source.walks w es) (source.called c)))
-      (does-then vectors s n env (values es) (call_on c) (source.walks w es) (λ ts. settle_if b (source.called c ts)) (λ xs ts m after. StandEach base n m after xs ts) (λ x t m after. StandsIf b base n m after x t) each
+      (does-then (stage1 vectors) s n env (values es) (call_on c) (source.walks w es) (λ ts. settle_if b (source.called c ts)) (λ xs ts m after. StandEach base n m after xs ts) (λ x t m after. StandsIf b base n m after x t) each
       (λ ts m middle at kept h. finish m middle ts at (omega (arith, at)) h))
 
   total_finishes : {k : _} (r : Reduction) (es : Exprs k) → length (listed es) ≡ 1 → Finishes (reduction_word r) es
@@ -92,10 +93,10 @@ module _ (vectors : List ℕ) (base : ℕ) (s : Scope) (w : World) (n : ℕ) (en
       (AreSound parts s es → AreClear vectors s n es → Each es) → ((op : ValueBinary) → AreSound parts s es → AreJoined vectors s op b None n es → ArgumentsStand vectors base env s w op b None n es) →
       Results (called c (listed es) (values es) (λ op. nested op None es))
       (if is_inquiry c then source.known (source.inquired c (state_of w.vars (source.name_in es)) (source.dimension_in es)) else (source.walks w es >>= source.called c))
-  call-if parts word.Abs es sound clear each args = at_once word.Abs es (finishes word.Abs es 1 (λ m middle xs ts long among h. abs-if vectors base n s m middle xs ts g long b among h) sound.0 clear.1) (each sound.1 clear.0)
-  call-if parts word.Mod es sound clear each args = at_once word.Mod es (finishes word.Mod es 2 (λ m middle xs ts long among h. mod-if vectors base n s m middle xs ts g long b among h) sound.0 clear.1) (each sound.1 clear.0)
-  call-if parts word.Modulo es sound clear each args = at_once word.Modulo es (finishes word.Modulo es 2 (λ m middle xs ts long among h. modulo-if vectors base n s m middle xs ts g long b among h) sound.0 clear.1) (each sound.1 clear.0)
-  call-if parts word.Merge es sound clear each args = at_once word.Merge es (finishes word.Merge es 3 (λ m middle xs ts long among h. merge-if vectors base n s m middle xs ts g long b among h) sound.0 clear.1) (each sound.1 clear.0)
+  call-if parts word.Abs es sound clear each args = at_once word.Abs es (finishes word.Abs es 1 (λ m middle xs ts long among h. abs-if b vectors base n s m middle xs ts g long among h) sound.0 clear.1) (each sound.1 clear.0)
+  call-if parts word.Mod es sound clear each args = at_once word.Mod es (finishes word.Mod es 2 (λ m middle xs ts long among h. mod-if b vectors base n s m middle xs ts g long among h) sound.0 clear.1) (each sound.1 clear.0)
+  call-if parts word.Modulo es sound clear each args = at_once word.Modulo es (finishes word.Modulo es 2 (λ m middle xs ts long among h. modulo-if b vectors base n s m middle xs ts g long among h) sound.0 clear.1) (each sound.1 clear.0)
+  call-if parts word.Merge es sound clear each args = at_once word.Merge es (finishes word.Merge es 3 (λ m middle xs ts long among h. merge-if b vectors base n s m middle xs ts g long among h) sound.0 clear.1) (each sound.1 clear.0)
   call-if parts word.Min es sound clear each args = nested_case binary.Min word.Min int_min least min-nests es sound.0 (args binary.Min sound.1 clear)
   call-if parts word.Max es sound clear each args = nested_case binary.Max word.Max int_max greatest max-nests es sound.0 (args binary.Max sound.1 clear)
   call-if parts word.Sum es sound clear each args = at_once word.Sum es (total_finishes totals.Sum es sound.0) (each sound.1 clear.0)

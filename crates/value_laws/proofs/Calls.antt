@@ -117,23 +117,23 @@ module _ (w : CallWord) (op : What) (many : ℕ) (is : Calls w op many) (vectors
   elemental_call : Leaves (source.elemental_on w ts (source.scalars ts))
   elemental_call = call_of (source.scalars ts) (all-are base env low n xs ts h)
 
-module _ (vectors : List ℕ) (base low : ℕ) (s : Scope) (n : ℕ) (env : Environment) (xs : List Operand) (ts : List Term) (g : base ≤ low) where
+module _ (b : Bool) (vectors : List ℕ) (base low : ℕ) (s : Scope) (n : ℕ) (env : Environment) (xs : List Operand) (ts : List Term) (g : base ≤ low) where
   -- where the call is a vector subscript or not
-  abbrev pub StandIf : Bool → CallWord → Type 0
-  StandIf b w = Does vectors s n env (call_on w xs) (settle_if b (source.called w ts)) (λ x t m after. StandsIf b base low m after x t)
+  abbrev pub StandIf : CallWord → Type 0
+  StandIf w = Does vectors s n env (call_on w xs) (settle_if b (source.called w ts)) (λ x t m after. StandsIf b base low m after x t)
 
-  pub abs-if : length xs ≡ 1 → (b : Bool) → is_among n vectors ≡ b → StandEach base low n env xs ts → StandIf b word.Abs
+  pub abs-if : length xs ≡ 1 → is_among n vectors ≡ b → StandEach base low n env xs ts → StandIf word.Abs
   unfolding call_on
-  abs-if long b among h = elemental_call word.Abs (what.Unary unary.Abs) 1 (unary-elementwise unary.Abs) vectors base low s n env xs ts g long b among h (call_elem word.Abs xs)
+  abs-if long among h = elemental_call word.Abs (what.Unary unary.Abs) 1 (unary-elementwise unary.Abs) vectors base low s n env xs ts g long b among h (call_elem word.Abs xs)
 
-  pub mod-if : length xs ≡ 2 → (b : Bool) → is_among n vectors ≡ b → StandEach base low n env xs ts → StandIf b word.Mod
+  pub mod-if : length xs ≡ 2 → is_among n vectors ≡ b → StandEach base low n env xs ts → StandIf word.Mod
   unfolding call_on
-  mod-if long b among h = elemental_call word.Mod (what.Binary binary.Mod) 2 (binary-elementwise binary.Mod) vectors base low s n env xs ts g long b among h (call_elem word.Mod xs)
+  mod-if long among h = elemental_call word.Mod (what.Binary binary.Mod) 2 (binary-elementwise binary.Mod) vectors base low s n env xs ts g long b among h (call_elem word.Mod xs)
 
-  pub modulo-if : length xs ≡ 2 → (b : Bool) → is_among n vectors ≡ b → StandEach base low n env xs ts → StandIf b word.Modulo
+  pub modulo-if : length xs ≡ 2 → is_among n vectors ≡ b → StandEach base low n env xs ts → StandIf word.Modulo
   unfolding call_on
-  modulo-if long b among h = elemental_call word.Modulo (what.Binary binary.Modulo) 2 (binary-elementwise binary.Modulo) vectors base low s n env xs ts g long b among h (call_elem word.Modulo xs)
+  modulo-if long among h = elemental_call word.Modulo (what.Binary binary.Modulo) 2 (binary-elementwise binary.Modulo) vectors base low s n env xs ts g long b among h (call_elem word.Modulo xs)
 
-  pub merge-if : length xs ≡ 3 → (b : Bool) → is_among n vectors ≡ b → StandEach base low n env xs ts → StandIf b word.Merge
+  pub merge-if : length xs ≡ 3 → is_among n vectors ≡ b → StandEach base low n env xs ts → StandIf word.Merge
   unfolding call_on
-  merge-if long b among h = elemental_call word.Merge what.Select 3 merge vectors base low s n env xs ts g long b among h (call_elem word.Merge xs)
+  merge-if long among h = elemental_call word.Merge what.Select 3 merge vectors base low s n env xs ts g long b among h (call_elem word.Merge xs)

@@ -33,9 +33,6 @@ use Rattle.value_laws.proofs.ClearSubscripts.{GivenGoal, SubGoal, range-clear, g
 use Rattle.value_laws.proofs.VectorNumbers.{or-false}
 
 module _ (base : ℕ) (s : Scope) (below : DeclaresBelow base s) (parts : Bool) (vectors : List ℕ) where
-  abbrev OfGoal : Expr → Type 0
-  OfGoal = Goal base s below parts vectors
-
   -- any call
   by_call : {k : _} (c : CallWord) (es : Exprs k) (b : Bool) (n : ℕ) → base ≤ n → IsSoundCall (is_inquiry c) s c es (AreSound parts s es) → EachGoal base s below parts vectors es →
       ((op : ValueBinary) → 2 ≤ length (listed es) → AreSound parts s es → Takes base vectors s b n (nested op None es) → AreJoined vectors s op (b && true) None n es) →
@@ -50,7 +47,7 @@ module _ (base : ℕ) (s : Scope) (below : DeclaresBelow base s) (parts : Bool) 
   by_call c es b n g sound each first h = call_clear base s below parts vectors c es b n g sound.1 each h
 
   mutual
-    pub clear-value : (e : Expr) → OfGoal e
+    pub clear-value : (e : Expr) → Goal base s below parts vectors e
     clear-value (Number z) b n g sound h = tt
     clear-value TooWide b n g sound h = tt
     clear-value TooDeep b n g sound h = tt

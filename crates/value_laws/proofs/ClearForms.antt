@@ -2,14 +2,12 @@
 use Rattle.std.proofs.Common.{◌≡◌, refl, ap, ◌∙◌, inl, inr, ℕ, ◌+◌, ◌<◌, ◌≤◌, ◌==◌, Bool, true, false, List, [], ◌∷◌, ◌++◌, Some, arith, if◌then◌else◌}
 use Rattle.std.specs.Prelude.{◌&&◌}
 use Rattle.ws_base.specs.declared.op.CallWord.{CallWord}
-use Rattle.ws_base.specs.declared.op.CallWord.TheVariants as word
 use Rattle.ws_space.specs.Values.{is_among}
 use Rattle.ws_tree.specs.declared.expr.Expr.{Expr}
 use Rattle.ws_types.specs.declared.constant.Constancy.{Constancy}
 use Rattle.ws_types.specs.declared.constant.Constancy.TheVariants.{Value, NoValue, NotConstant}
 use Rattle.ws_types.specs.Constants.{constancy}
 use Rattle.hlfir_ops.specs.declared.kinds.Elem.{Elem}
-use Rattle.hlfir_ops.specs.declared.kinds.Elem.TheVariants.{I32}
 use Rattle.hlfir_ops.specs.declared.kinds.ValueKind.{ValueKind}
 use Rattle.hlfir_ops.specs.declared.kinds.ValueKind.TheVariants as kind
 use Rattle.hlfir_ops.specs.declared.what.What.{What}
@@ -26,6 +24,7 @@ use Rattle.lower_values.specs.Values.{constant_or, folded}
 use Rattle.value_laws.specs.Standing.{IsOwn}
 use Rattle.value_laws.specs.Sound.{UnlessValue}
 use Rattle.value_laws.proofs.VectorNumbers.{subscripts-op, OwnSubscripts, VectorsFor, vectors-front, vectors-back, vectors-one}
+use Rattle.value_laws.proofs.OwnNumbers.{call-forms}
 
 pub and-true : (b : Bool) → (b && true) ≡ b
 and-true true = refl
@@ -76,19 +75,7 @@ module _ (s : Scope) (n : ℕ) where
   one-operation w e xs none = operation_by w e xs (rank_from 0 xs == 0) none
 
   pub one-call : (w : CallWord) (xs : List Operand) → IsOne s n (call_on w xs)
-  unfolding call_on
-  one-call word.Sum xs = one-giving (what.Reduce _) _ _ refl
-  one-call word.Product xs = one-giving (what.Reduce _) _ _ refl
-  one-call word.Minval xs = one-giving (what.Reduce _) _ _ refl
-  one-call word.Maxval xs = one-giving (what.Reduce _) _ _ refl
-  one-call word.Count xs = one-giving (what.Reduce _) _ _ refl
-  one-call word.Any xs = one-giving (what.Reduce _) _ _ refl
-  one-call word.All xs = one-giving (what.Reduce _) _ _ refl
-  one-call word.Abs xs = one-operation (what.Unary _) I32 xs (λ os. refl)
-  one-call word.Mod xs = one-operation (what.Binary _) I32 xs (λ os. refl)
-  one-call word.Modulo xs = one-operation (what.Binary _) I32 xs (λ os. refl)
-  one-call word.Merge xs = one-operation what.Select _ xs (λ os. refl)
-  one-call w xs = one-operation what.Select I32 xs (λ os. refl)
+  one-call w xs = call-forms (IsOne s n) one-giving one-operation w xs
 
 -- ---- what is taken as a vector subscript later
 

@@ -36,9 +36,6 @@ use Rattle.value_laws.proofs.ClearForms.{and-turned, one-giving, not-taken, numb
 use Rattle.value_laws.proofs.ClearOperators.{Goal, no_one}
 
 module _ (base : ℕ) (s : Scope) (below : DeclaresBelow base s) (parts : Bool) (vectors : List ℕ) where
-  abbrev OfGoal : Expr → Type 0
-  OfGoal = Goal base s below parts vectors
-
   -- ---- parts of a triplet
 
   abbrev pub GivenGoal : Given → Type 0
@@ -69,7 +66,7 @@ module _ (base : ℕ) (s : Scope) (below : DeclaresBelow base s) (parts : Bool) 
         gw (constant I32 (pos 1)) k (omega (arith, g)) sound.2 (subst (λ os. VectorsFor base vectors k os no_one) (append-nil c.ops) end),
       )
 
-  pub given-clear : (e : Expr) → OfGoal e → GivenGoal (given e)
+  pub given-clear : (e : Expr) → Goal base s below parts vectors e → GivenGoal (given e)
   given-clear e goal other n g sound h = goal false n g sound.0 h
 
   -- ---- one subscript
@@ -78,7 +75,7 @@ module _ (base : ℕ) (s : Scope) (below : DeclaresBelow base s) (parts : Bool) 
   of_vector true x k = refl
   of_vector false x k = or-false (k == x.value.number)
 
-  pub one-clear : (e : Expr) → OfGoal e → SubGoal (sub.One e)
+  pub one-clear : (e : Expr) → Goal base s below parts vectors e → SubGoal (sub.One e)
   unfolding ◌then◌ done
   one-clear e goal r dim n g sound h =
       let a = value e s n in

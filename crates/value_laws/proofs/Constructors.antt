@@ -63,12 +63,19 @@ module _ (vectors : List ℕ) (base low : ℕ) (s : Scope) (n : ℕ) (env : Envi
       (settled-not n env (walked.made n env what.Vector (values_of xs) []) ∙ ap (λ vs. let v : Staged Value = Ok (walked.vector vs) in v) (each-single base env low n xs ts singles h))
       (goes-op vectors what.Vector s.line (values_of xs) (Some (Array (first_elem xs) 1)) [] n env refl)
 
-  pub does-vector : Does vectors s n env (vector xs) (Ok (term.Listed (map source.value_of ts))) (λ x t m after. Stands base low m after x t)
+  -- with the value that it leaves
+  pub vector-given : Does vectors s n env (vector xs) (Ok (term.Listed (map source.value_of ts))) (λ x t m after. Stands base low m after x t × (after x.value.number ≡ walked.vector (map source.value_of ts)))
   unfolding vector giving
-  does-vector = (
-    vector_goes.0,
-    vector_goes.1,
-    listed-stands base low (n + numbers_of (vector_op ∷ [])) n vector_goes.0 (first_elem xs) 1 (map source.value_of ts) (each-bounds base env low n xs ts h)
-        (omega (arith, op_numbers-op_of what.Vector s.line (values_of xs) (Some (Array (first_elem xs) 1)) [])) refl
-        (ap (λ f. f n) vector_goes.2 ∙ with_value-here n listed env),
-  )
+  vector-given =
+      let at = ap (λ f. f n) vector_goes.2 ∙ with_value-here n listed env in (
+        vector_goes.0,
+        vector_goes.1,
+        (
+          listed-stands base low (n + numbers_of (vector_op ∷ [])) n vector_goes.0 (first_elem xs) 1 (map source.value_of ts) (each-bounds base env low n xs ts h)
+              (omega (arith, op_numbers-op_of what.Vector s.line (values_of xs) (Some (Array (first_elem xs) 1)) [])) refl at,
+          at,
+        ),
+      )
+
+  pub does-vector : Does vectors s n env (vector xs) (Ok (term.Listed (map source.value_of ts))) (λ x t m after. Stands base low m after x t)
+  does-vector = (vector-given.0, vector-given.1, vector-given.2.0)

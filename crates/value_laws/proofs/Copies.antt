@@ -23,6 +23,7 @@ use Rattle.hlfir_meaning.specs.Environments.{Value, array, Environment, with_val
 use Rattle.hlfir_meaning.specs.Places.{column_at}
 use Rattle.hlfir_meaning.specs.References.{held_extents, held_values}
 use Rattle.hlfir_meaning.specs.Stage1 as walked
+use Rattle.hlfir_meaning.specs.Stage1.{stage1}
 use Rattle.lower_values.specs.declared.operand.Operand.{Operand}
 use Rattle.lower_values.specs.Scopes.{Scope}
 use Rattle.lower_values.specs.Lowerings.{giving}
@@ -99,7 +100,7 @@ module _ (vectors : List ℕ) (base low : ℕ) (s : Scope) (n : ℕ) (env : Envi
       Does vectors s n env (value_of_whole k x) (Ok t) (λ y u m after. Stands base low m after y u)
   copy_of_kind (kind.Declared e shape) t h l free is = copied false e shape.rank h.value t l free h.found is
   copy_of_kind (kind.Allocatable e rank) t h l free is = copied false e rank h.value t l free h.found is
-  copy_of_kind k t h l free is = does-done vectors s n env x t (λ y u m after. Stands base low m after y u) h
+  copy_of_kind k t h l free is = does-done (stage1 vectors) s n env x t (λ y u m after. Stands base low m after y u) h
 
   pub does-copy : low ≤ n → (t : Term) → is_among n vectors ≡ false → Stands base low n env x t → Does vectors s n env (in_parentheses x) (Ok t) (λ y u m after. Stands base low m after y u)
   unfolding in_parentheses
@@ -127,13 +128,13 @@ module _ (vectors : List ℕ) (base low : ℕ) (s : Scope) (n : ℕ) (env : Envi
   scalar_stays : (k : ValueKind) (z : ℤ) (h : Stands base low n env x (term.Scalar z)) → IsWholeWhereNamed k h.value (term.Scalar z) → Does vectors s n env (value_of_whole k x) (Ok (term.Scalar z)) (λ y u m after. StandsSettled base low m after y u)
   scalar_stays (kind.Declared e shape) z h is = absurd (no_array z is.array is.term)
   scalar_stays (kind.Allocatable e rank) z h is = absurd (no_array z is.array is.term)
-  scalar_stays k z h is = does-done vectors s n env x (term.Scalar z) (λ y u m after. StandsSettled base low m after y u) h
+  scalar_stays k z h is = does-done (stage1 vectors) s n env x (term.Scalar z) (λ y u m after. StandsSettled base low m after y u) h
 
   listed_stays : (k : ValueKind) (xs : List ℤ) (h : Stands base low n env x (term.Listed xs)) → env x.value.number ≡ walked.vector xs → IsWholeWhereNamed k h.value (term.Listed xs) →
       Does vectors s n env (value_of_whole k x) (Ok (term.Listed xs)) (λ y u m after. StandsSettled base low m after y u)
   listed_stays (kind.Declared e shape) xs h at is = absurd (no_section xs is.array is.term)
   listed_stays (kind.Allocatable e rank) xs h at is = absurd (no_section xs is.array is.term)
-  listed_stays k xs h at is = does-done vectors s n env x (term.Listed xs) (λ y u m after. StandsSettled base low m after y u) (h, at)
+  listed_stays k xs h at is = does-done (stage1 vectors) s n env x (term.Listed xs) (λ y u m after. StandsSettled base low m after y u) (h, at)
 
   -- what was settled before stays as it is
   pub settled-stays : (t : Term) → StandsSettled base low n env x t → Does vectors s n env (in_parentheses x) (Ok t) (λ y u m after. StandsSettled base low m after y u)

@@ -59,7 +59,7 @@ agreed-all [] shape h = All-nil (λ e. e ≡ shape)
 agreed-all (e ∷ []) shape h = All-cons (λ g. g ≡ shape) e [] (ap (or_else e) h) (All-nil (λ g. g ≡ shape))
 agreed-all (e ∷ f ∷ more) shape h = agreed_from e f shape more (same_extents e f) refl (agreed-all (f ∷ more) shape) h
 
-below_end : (k n m : ℕ) → k + n ≤ m → All (λ p. p < m) (places_from k n)
+pub below_end : (k n m : ℕ) → k + n ≤ m → All (λ p. p < m) (places_from k n)
 below_end k zero m h = All-nil (λ p. p < m)
 below_end k (suc n) m h = All-cons (λ p. p < m) k (places_from (suc k) n) (omega (arith, h)) (below_end (suc k) n m (omega (arith, h)))
 

@@ -31,6 +31,7 @@ use Rattle.hlfir_ops.specs.declared.what.ValueBinary.{ValueBinary}
 use Rattle.hlfir_ops.specs.Numbers.{numbers_of}
 use Rattle.hlfir_ops.specs.RulesValues.{rank_of}
 use Rattle.hlfir_meaning.specs.Environments.{Environment}
+use Rattle.hlfir_meaning.specs.Stage1.{stage1}
 use Rattle.lower_values.specs.declared.operand.Operand.{Operand}
 use Rattle.lower_values.specs.Scopes.{Scope}
 use Rattle.lower_values.specs.Lowerings.{Lowering, done, next, ◌>>=◌ as ◌then◌}
@@ -107,7 +108,7 @@ module _ (parts : Bool) (vectors : List ℕ) (base : ℕ) (s : Scope) (w : World
       Results b n env (p then q) (r >>= f)
   after_one b p q r f n env h g =
       subst (λ o. Does vectors s n env (p then q) o (λ x t m after. StandsIf b base n m after x t)) (sym (settle-then b r f))
-      (does-then vectors s n env p q r (λ t. settle_if b (f t)) (λ x t m after. Stands base n m after x t) (λ x t m after. StandsIf b base n m after x t) h
+      (does-then (stage1 vectors) s n env p q r (λ t. settle_if b (f t)) (λ x t m after. Stands base n m after x t) (λ x t m after. StandsIf b base n m after x t) h
       (λ t m middle at kept hx. g t m middle at (omega (arith, at)) hx))
 
   minus_case : (b : Bool) (e : Expr) (n : ℕ) (env : Environment) → base ≤ n → Results false n env (value e) (source.walk w e) → is_among (n + numbers_of (value e s n).ops) vectors ≡ b →
@@ -136,8 +137,8 @@ module _ (parts : Bool) (vectors : List ℕ) (base : ℕ) (s : Scope) (w : World
       let r = settle_if b (source.walk w e) in
       let x = (value e s n).made in
       subst (λ q. Does vectors s n env (value e then in_parentheses) q (λ y t m after. StandsIf b base n m after y t)) (then_nothing r)
-      (does-then vectors s n env (value e) in_parentheses r (λ t. Ok t) (λ y t m after. StandsIf b base n m after y t) (λ y t m after. StandsIf b base n m after y t) h
-      (λ t m middle at kept hx. subst (λ p. Does vectors s m middle p (Ok t) (λ y u k after. StandsIf b base n k after y u)) (sym same) (does-done vectors s m middle x t (λ y u k after. StandsIf b base n k after y u) hx)))
+      (does-then (stage1 vectors) s n env (value e) in_parentheses r (λ t. Ok t) (λ y t m after. StandsIf b base n m after y t) (λ y t m after. StandsIf b base n m after y t) h
+      (λ t m middle at kept hx. subst (λ p. Does vectors s m middle p (Ok t) (λ y u k after. StandsIf b base n k after y u)) (sym same) (does-done (stage1 vectors) s m middle x t (λ y u k after. StandsIf b base n k after y u) hx)))
 
   parens_by : (b : Bool) (e : Expr) (n : ℕ) (env : Environment) (k : ValueKind) → k ≡ (value e s n).made.kind → base ≤ n → Agrees s.names base w env → IsSound parts s e → HasNoSection b e → Goal false e → Goal b e →
       ByCopy k (IsClear vectors s false n e × (is_among (n + numbers_of (value e s n).ops) vectors ≡ b)) (IsClear vectors s b n e) → Results b n env (value e then in_parentheses) (source.walk w e)
@@ -155,7 +156,7 @@ module _ (parts : Bool) (vectors : List ℕ) (base : ℕ) (s : Scope) (w : World
   binary_case b op e f n env g agrees h k among =
       subst (λ o. Does vectors s n env (value e then (λ x. value f then (λ y. binary_operation (binary_of op) x y))) o (λ x t m after. StandsIf b base n m after x t))
       (sym (settle-then b (source.walk w e) (λ t. source.walk w f >>= (λ u. source.binary_on op t u))))
-      (does-then vectors s n env (value e) (λ x. value f then (λ y. binary_operation (binary_of op) x y)) (source.walk w e) (λ t. settle_if b (source.walk w f >>= (λ u. source.binary_on op t u)))
+      (does-then (stage1 vectors) s n env (value e) (λ x. value f then (λ y. binary_operation (binary_of op) x y)) (source.walk w e) (λ t. settle_if b (source.walk w f >>= (λ u. source.binary_on op t u)))
       (λ x t m after. Stands base n m after x t) (λ z t m after. StandsIf b base n m after z t) h
       (λ t m middle at kept hx. second t m middle at (omega (arith, at)) kept hx))
     where
@@ -163,7 +164,7 @@ module _ (parts : Bool) (vectors : List ℕ) (base : ℕ) (s : Scope) (w : World
           Does vectors s m middle (value f then (λ y. binary_operation (binary_of op) (value e s n).made y)) (settle_if b (source.walk w f >>= (λ u. source.binary_on op t u))) (λ z u j after. StandsIf b base n j after z u)
       second t m middle at l kept hx =
           subst (λ o. Does vectors s m middle (value f then (λ y. binary_operation (binary_of op) (value e s n).made y)) o (λ z u j after. StandsIf b base n j after z u)) (sym (settle-then b (source.walk w f) (λ u. source.binary_on op t u)))
-          (does-then vectors s m middle (value f) (λ y. binary_operation (binary_of op) (value e s n).made y) (source.walk w f) (λ u. settle_if b (source.binary_on op t u))
+          (does-then (stage1 vectors) s m middle (value f) (λ y. binary_operation (binary_of op) (value e s n).made y) (source.walk w f) (λ u. settle_if b (source.binary_on op t u))
           (λ y u j after. Stands base m j after y u) (λ z u j after. StandsIf b base n j after z u) (k m middle at (omega (arith, g, l)) (agrees-kept s.names base n w env middle g kept agrees))
           (λ u j after at' kept' hy. binary-if vectors base n m s j after (value e s n).made (value f s m).made g l (omega (arith, at')) op b
           (among_at b j (n + numbers_of (value e s n).ops + numbers_of (value f s (n + numbers_of (value e s n).ops)).ops) (at' ∙ ap (λ i. i + numbers_of (value f s i).ops) at) among) t u
@@ -176,19 +177,19 @@ module _ (parts : Bool) (vectors : List ℕ) (base : ℕ) (s : Scope) (w : World
 
   more_case : {k : _} (e : Expr) (es : Exprs k) → Goal false e → EachGoal es → EachGoal (more_exprs e es)
   more_case e es first rest n env g agrees sound clear =
-      does-then vectors s n env (value e) (λ x. values es then (λ xs. done (x ∷ xs))) (source.walk w e) (λ t. source.walks w es >>= (λ ts. Ok (t ∷ ts)))
+      does-then (stage1 vectors) s n env (value e) (λ x. values es then (λ xs. done (x ∷ xs))) (source.walk w e) (λ t. source.walks w es >>= (λ ts. Ok (t ∷ ts)))
       (λ x t m after. Stands base n m after x t) (λ xs ts m after. StandEach base n m after xs ts) (first n env g agrees sound.0 clear.0 tt)
       (λ t m middle at kept hx. let l : n ≤ m = omega (arith, at) in
-      does-then vectors s m middle (values es) (λ xs. done ((value e s n).made ∷ xs)) (source.walks w es) (λ ts. Ok (t ∷ ts))
+      does-then (stage1 vectors) s m middle (values es) (λ xs. done ((value e s n).made ∷ xs)) (source.walks w es) (λ ts. Ok (t ∷ ts))
       (λ xs ts j after. StandEach base m j after xs ts) (λ xs ts j after. StandEach base n j after xs ts)
       (rest m middle (omega (arith, g, l)) (agrees-kept s.names base n w env middle g kept agrees) sound.1 (subst (λ j. AreClear vectors s j es) (sym at) clear.1))
-      (λ ts j after at' kept' hxs. does-done vectors s j after ((value e s n).made ∷ (values es s m).made) (t ∷ ts) (λ xs us i rho. StandEach base n i rho xs us)
+      (λ ts j after at' kept' hxs. does-done (stage1 vectors) s j after ((value e s n).made ∷ (values es s m).made) (t ∷ ts) (λ xs us i rho. StandEach base n i rho xs us)
       (m, l, stands-moved base n n m m middle after (value e s n).made t (omega arith) (omega arith) (kept-alike base n m middle after g l kept') hx, hxs)))
 
   vector_case : {k : _} (es : Exprs k) (n : ℕ) (env : Environment) → AreItems s es → Does vectors s n env (values es) (source.walks w es) (λ xs ts m after. StandEach base n m after xs ts) →
       Results false n env (values es then vector) (source.walks w es >>= (λ ts. Ok (term.Listed (map source.value_of ts))))
   vector_case es n env items each =
-      does-then vectors s n env (values es) vector (source.walks w es) (λ ts. Ok (term.Listed (map source.value_of ts))) (λ xs ts m after. StandEach base n m after xs ts) (λ x t m after. Stands base n m after x t) each
+      does-then (stage1 vectors) s n env (values es) vector (source.walks w es) (λ ts. Ok (term.Listed (map source.value_of ts))) (λ xs ts m after. StandEach base n m after xs ts) (λ x t m after. Stands base n m after x t) each
       (λ ts m middle at kept h. does-vector vectors base n s m middle (values es s n).made ts (items-single es s n base n m middle ts items h) h)
 
   -- ---- designators
@@ -250,7 +251,7 @@ module _ (parts : Bool) (vectors : List ℕ) (base : ℕ) (s : Scope) (w : World
         (λ m middle at low agrees'. expression-if false f m middle low agrees' sound.1 (subst (λ j. IsClear vectors s false j f) (sym at) free.1) tt) free.2) clear)
 
     pub each-stand : {k : _} (es : Exprs k) → EachGoal es
-    each-stand end_exprs n env g agrees sound clear = does-done vectors s n env [] [] (λ xs ts m after. StandEach base n m after xs ts) (omega arith)
+    each-stand end_exprs n env g agrees sound clear = does-done (stage1 vectors) s n env [] [] (λ xs ts m after. StandEach base n m after xs ts) (omega arith)
     each-stand (more_exprs e es) n env g agrees sound clear = more_case e es (expression-if false e) (each-stand es) n env g agrees sound clear
 
     pub arguments-stand : {k : _} (op : ValueBinary) (b : Bool) (before : Option Operand) (es : Exprs k) (n : ℕ) (start : Environment) → base ≤ n → Agrees s.names base w start → AreSound parts s es →

@@ -33,6 +33,7 @@ use Rattle.hlfir_meaning.specs.Environments.{Value, variable, scalar, Environmen
 use Rattle.hlfir_meaning.specs.Order.{ends}
 use Rattle.hlfir_meaning.specs.References as references
 use Rattle.hlfir_meaning.specs.Stage1 as walked
+use Rattle.hlfir_meaning.specs.Stage1.{stage1}
 use Rattle.lower_values.specs.declared.operand.Operand.{Operand}
 use Rattle.lower_values.specs.Scopes.{Scope}
 use Rattle.lower_values.specs.Lowerings.{Lowering, done, giving, scoped, ◌>>=◌ as ◌then◌}
@@ -66,7 +67,7 @@ module _ (vectors : List ℕ) (base low : ℕ) (s : Scope) (n : ℕ) (env : Envi
   by_kind (kind.Allocatable e rank) = box_by e rank (references.allocated held)
       (subst (λ q. Goes vectors n env (op_of what.Boxed s.line (d.value ∷ []) (Some (kind.Allocatable e rank)) [] ∷ []) (references.allocated q >>= (λ a. Ok (variable h.var))) (λ x after. after ≡ with_value n x env)) h.holds
       (boxes vectors base low s n env h.var d.value g l h.below h.found e rank))
-  by_kind k = does-done vectors s n env d tt Refers h.found
+  by_kind k = does-done (stage1 vectors) s n env d tt Refers h.found
 
   pub does-boxed : Does vectors s n env (boxed d) (reached d.kind held) Refers
   unfolding boxed
@@ -105,7 +106,7 @@ module _ (vectors : List ℕ) (base low : ℕ) (s : Scope) (n : ℕ) (env : Envi
       Inquires (boxed d then (λ r. giving w (r.value ∷ []) (kind.Scalar e))) (references.allocated held >>= q)
   inquires w e q goes_on whole makes =
       subst (λ r. Does vectors s n env (boxed d then (λ x. giving w (x.value ∷ []) (kind.Scalar e))) r (λ x t m after. Stands base low m after x t)) (either_reached d.kind held q)
-      (does-then vectors s n env (boxed d) (λ x. giving w (x.value ∷ []) (kind.Scalar e)) (reached d.kind held) (λ _. (references.allocated held >>= q) >>= (λ z. Ok (term.Scalar z)))
+      (does-then (stage1 vectors) s n env (boxed d) (λ x. giving w (x.value ∷ []) (kind.Scalar e)) (reached d.kind held) (λ _. (references.allocated held >>= q) >>= (λ z. Ok (term.Scalar z)))
       (Refers vectors base low s n env g l d held h) (λ x t m after. Stands base low m after x t) (does-boxed vectors base low s n env g l d held h)
       (λ u m after at kept refers. does-scalar vectors base low w ((boxed d s n).made.value ∷ []) e s m after (omega (arith, at, l)) (references.allocated held >>= q) goes_on whole
       (makes m after (boxed d s n).made.value ∙ (ap (λ x. walked.as_scalar (references.allocated (state_in x) >>= q)) refers ∙ ap (λ c. walked.as_scalar (references.allocated c >>= q)) h.holds))))

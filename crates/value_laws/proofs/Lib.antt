@@ -7,6 +7,7 @@ pub mod ClearForms
 pub mod ClearArguments
 pub mod ClearSubscripts
 pub mod Columns
+pub mod Constancy
 pub mod Constructors
 pub mod Copies
 pub mod Elementals

@@ -9,6 +9,7 @@ use Rattle.array_meaning.specs.Stage2 as later
 use Rattle.hlfir_ops.specs.Numbers.{numbers_of}
 use Rattle.hlfir_meaning.specs.Environments.{Environment, Deferred}
 use Rattle.hlfir_meaning.specs.Stage2.{deferred_by}
+use Rattle.hlfir_meaning.specs.Stage1.{stage1}
 use Rattle.lower_values.specs.declared.operand.Operand.{Operand}
 use Rattle.lower_values.specs.Scopes.{Scope}
 use Rattle.lower_values.specs.Lowerings.{Lowering, ◌>>=◌ as ◌then◌}
@@ -46,11 +47,11 @@ module _ (vectors : List ℕ) (base : ℕ) (s : Scope) (n : ℕ) (env : Environm
       ((m k : ℕ) → m ≡ n + numbers_of (p s n).ops → k ≡ m + numbers_of (q s m).ops → is_among k vectors ≡ false) →
       Leaves vectors base n s n env (p then (λ x. q then (λ y. binary_operation (binary_of op) x y))) (r >>= (λ t. u >>= (λ w. source.binary_on op t w)))
   does-both hp hq free =
-      does-then vectors s n env p (λ x. q then (λ y. binary_operation (binary_of op) x y)) r (λ t. u >>= (λ w. source.binary_on op t w))
+      does-then (stage1 vectors) s n env p (λ x. q then (λ y. binary_operation (binary_of op) x y)) r (λ t. u >>= (λ w. source.binary_on op t w))
       (λ x t m after. Stands base n m after x t) (λ z t m after. Stands base n m after z t) hp
       (λ t m middle at kept hx.
       let l : n ≤ m = omega (arith, at) in
-      does-then vectors s m middle q (λ y. binary_operation (binary_of op) (p s n).made y) u (λ w. source.binary_on op t w)
+      does-then (stage1 vectors) s m middle q (λ y. binary_operation (binary_of op) (p s n).made y) u (λ w. source.binary_on op t w)
       (λ y w k after. Stands base m k after y w) (λ z w k after. Stands base n k after z w) (hq m middle at kept)
       (λ w k after at' kept' hy.
       let l' : m ≤ k = omega (arith, at') in

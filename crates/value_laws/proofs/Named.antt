@@ -20,6 +20,7 @@ use Rattle.hlfir_ops.specs.declared.kinds.ValueKind.TheVariants as kind
 use Rattle.hlfir_ops.specs.declared.op.ValueId.{ValueId}
 use Rattle.hlfir_ops.specs.RulesValues.{rank_of}
 use Rattle.hlfir_meaning.specs.Environments.{Environment}
+use Rattle.hlfir_meaning.specs.Stage1.{stage1}
 use Rattle.lower_values.specs.declared.operand.Operand.{Operand}
 use Rattle.lower_values.specs.Scopes.{Scope, index_of}
 use Rattle.lower_values.specs.Lowerings.{Lowering, done, giving, scoped, ◌>>=◌ as ◌then◌}
@@ -47,7 +48,7 @@ module _ (vectors : List ℕ) (base low : ℕ) (s : Scope) (n : ℕ) (env : Envi
 
   named_stands : index_of s.indexes x ≡ None → known.constant_of s.names.constants x ≡ NotConstant → Leaves (named x) (source.walk w (Named x))
   unfolding named
-  named_stands apart free = does-scoped vectors s n env (λ q. index_or_other q x (index_of q.indexes x)) (source.walk w (Named x)) (λ y t m after. Stands base low m after y t)
+  named_stands apart free = does-scoped (stage1 vectors) s n env (λ q. index_or_other q x (index_of q.indexes x)) (source.walk w (Named x)) (λ y t m after. Stands base low m after y t)
       (subst (λ i. Leaves (index_or_other s x i) (source.walk w (Named x))) (sym apart) (variable_stands (variable_of s.names.variables x) refl free))
 
   by_constancy : (c : Constancy) → known.constant_of s.names.constants x ≡ c → IfValue c (λ z. source.constant_of w.constants x ≡ Some z) → index_of s.indexes x ≡ None → known.has_no_value c ≡ false →
@@ -59,7 +60,7 @@ module _ (vectors : List ℕ) (base low : ℕ) (s : Scope) (n : ℕ) (env : Envi
 
   pub does-name : index_of s.indexes x ≡ None → known.has_no_value (known.constant_of s.names.constants x) ≡ false → Leaves (value (Named x)) (source.walk w (Named x))
   unfolding folded
-  does-name apart has = does-scoped vectors s n env (λ q. constant_or (known.constancy q.names.constants (Named x)) (named x)) (source.walk w (Named x)) (λ y t m after. Stands base low m after y t)
+  does-name apart has = does-scoped (stage1 vectors) s n env (λ q. constant_or (known.constancy q.names.constants (Named x)) (named x)) (source.walk w (Named x)) (λ y t m after. Stands base low m after y t)
       (by_constancy (known.constant_of s.names.constants x) refl (agrees.integers x) apart has)
 
 -- what a name leaves is a declare, a box, or of rank 0

@@ -35,6 +35,7 @@ use Rattle.hlfir_meaning.specs.Places.{column_at}
 use Rattle.hlfir_meaning.specs.Selections.{array_operand}
 use Rattle.hlfir_meaning.specs.References as references
 use Rattle.hlfir_meaning.specs.Stage1 as walked
+use Rattle.hlfir_meaning.specs.Stage1.{stage1}
 use Rattle.lower_values.specs.declared.operand.Operand.{Operand}
 use Rattle.lower_values.specs.Scopes.{Scope}
 use Rattle.lower_values.specs.Lowerings.{Lowering, done, giving, ◌>>=◌ as ◌then◌}
@@ -96,10 +97,11 @@ module _ (base low high : ℕ) (env : Environment) (x : Operand) (v : Var) (a : 
 
 -- ---- the op or ops of a name
 
-module _ (vectors : List ℕ) (base low : ℕ) (s : Scope) (n : ℕ) (env : Environment) (v : Var) (id : ValueId) (g : base ≤ low) (l : low ≤ n) (declared : id.number < base) (found : env id.number ≡ variable v) where
-  abbrev named_by : ValueKind → Lowering Operand
-  named_by k = boxed (record { value = id; kind = k }) then loaded
+-- the value of the variable with this declare
+abbrev pub named_by : ValueId → ValueKind → Lowering Operand
+named_by id k = boxed (record { value = id; kind = k }) then loaded
 
+module _ (vectors : List ℕ) (base low : ℕ) (s : Scope) (n : ℕ) (env : Environment) (v : Var) (id : ValueId) (g : base ≤ low) (l : low ≤ n) (declared : id.number < base) (found : env id.number ≡ variable v) where
   abbrev Leaves : Operand → Term → ℕ → Environment → Type 0
   Leaves x t m after = Stands base low m after x t
 
@@ -118,20 +120,20 @@ module _ (vectors : List ℕ) (base low : ℕ) (s : Scope) (n : ℕ) (env : Envi
   small : id.number < n
   small = omega (arith, declared, g, l)
 
-  loads : (e : Elem) (z : ℤ) → v.state ≡ state.Scalar z → Does vectors s n env (named_by (kind.Place e)) (Ok (term.Scalar z)) Leaves
+  loads : (e : Elem) (z : ℤ) → v.state ≡ state.Scalar z → Does vectors s n env (named_by id (kind.Place e)) (Ok (term.Scalar z)) Leaves
   unfolding boxed loaded done
   loads e z is =
       let d : Operand = record { value = id; kind = kind.Place e } in
-      does-then vectors s n env (boxed d) loaded (Ok tt) (value_is z) Anything Leaves (does-done vectors s n env d tt Anything tt)
+      does-then (stage1 vectors) s n env (boxed d) loaded (Ok tt) (value_is z) Anything Leaves (does-done (stage1 vectors) s n env d tt Anything tt)
       (λ u m middle at kept h. does-scalar vectors base low what.Load (id ∷ []) e s m middle (omega (arith, at, l)) (Ok z) refl (λ b. refl)
       (ap (λ x. walked.as_scalar (walked.loaded x)) (kept id.number small ∙ found) ∙ ap (λ q. let r : Staged Value = Ok (scalar (references.held_scalar q)) in r) is))
 
-  declares : (e : Elem) (shape : Shape) (a : ArrayValue) → v.state ≡ state.Array a → IsArrayOf shape.rank a → Does vectors s n env (named_by (kind.Declared e shape)) (Ok (source.whole_array a)) Leaves
+  declares : (e : Elem) (shape : Shape) (a : ArrayValue) → v.state ≡ state.Array a → IsArrayOf shape.rank a → Does vectors s n env (named_by id (kind.Declared e shape)) (Ok (source.whole_array a)) Leaves
   unfolding boxed loaded done
   declares e shape a is h =
       let d : Operand = record { value = id; kind = kind.Declared e shape } in
-      does-then vectors s n env (boxed d) loaded (Ok tt) (array_is a) Anything Leaves (does-done vectors s n env d tt Anything tt)
-      (λ u m middle at kept i. does-done vectors s m middle d (source.whole_array a) Leaves (whole-stands base low m middle d v a (kept id.number small ∙ found) is (inl declared) h.some h))
+      does-then (stage1 vectors) s n env (boxed d) loaded (Ok tt) (array_is a) Anything Leaves (does-done (stage1 vectors) s n env d tt Anything tt)
+      (λ u m middle at kept i. does-done (stage1 vectors) s m middle d (source.whole_array a) Leaves (whole-stands base low m middle d v a (kept id.number small ∙ found) is (inl declared) h.some h))
 
   abbrev pub box_op : Elem → ℕ → Op
   box_op e rank = op_of what.Boxed s.line (id ∷ []) (Some (kind.Allocatable e rank)) []
@@ -153,25 +155,25 @@ module _ (vectors : List ℕ) (base low : ℕ) (s : Scope) (n : ℕ) (env : Envi
       subst (λ q. Goes vectors n env (box_op e rank ∷ []) (references.allocated q >>= (λ b. Ok (variable v))) (λ x after. after ≡ with_value n x env)) is h in
       (held.0, held.1, ap (λ f. f n) held.2 ∙ with_value-here n (variable v) env)
 
-  keeps_box : (e : Elem) (rank : ℕ) (a : ArrayValue) → v.state ≡ state.Array a → IsArrayOf rank a → Does vectors s n env (named_by (kind.Allocatable e rank)) (Ok (source.whole_array a)) Leaves
+  keeps_box : (e : Elem) (rank : ℕ) (a : ArrayValue) → v.state ≡ state.Array a → IsArrayOf rank a → Does vectors s n env (named_by id (kind.Allocatable e rank)) (Ok (source.whole_array a)) Leaves
   unfolding boxed loaded done giving
   keeps_box e rank a is h =
       let d : Operand = record { value = id; kind = kind.Allocatable e rank } in
       let x : Operand = record { value = record { number = n }; kind = kind.Allocatable e rank } in
-      does-then vectors s n env (boxed d) loaded (Ok tt) (array_is a) Boxed Leaves (boxed_array e rank a is (boxes e rank))
-      (λ u m middle at kept i. does-done vectors s m middle x (source.whole_array a) Leaves
+      does-then (stage1 vectors) s n env (boxed d) loaded (Ok tt) (array_is a) Boxed Leaves (boxed_array e rank a is (boxes e rank))
+      (λ u m middle at kept i. does-done (stage1 vectors) s m middle x (source.whole_array a) Leaves
       (whole-stands base low m middle x v a i is (inr (l, omega (arith, at, op_numbers-op_of what.Boxed s.line (id ∷ []) (Some (kind.Allocatable e rank)) []))) h.some h))
 
-  faults : (e : Elem) (rank k : ℕ) → v.state ≡ state.Unallocated k → Does vectors s n env (named_by (kind.Allocatable e rank)) (trouble Unallocated') Leaves
+  faults : (e : Elem) (rank k : ℕ) → v.state ≡ state.Unallocated k → Does vectors s n env (named_by id (kind.Allocatable e rank)) (trouble Unallocated') Leaves
   unfolding boxed loaded done giving
   faults e rank k is =
       let d : Operand = record { value = id; kind = kind.Allocatable e rank } in
       let none : Staged ⊤ = trouble Unallocated' in
-      does-then vectors s n env (boxed d) loaded none (value_is (pos 0)) Never Leaves
+      does-then (stage1 vectors) s n env (boxed d) loaded none (value_is (pos 0)) Never Leaves
       (subst (λ q. Goes vectors n env (box_op e rank ∷ []) (references.allocated q >>= (λ b. Ok (variable v))) (λ x after. after ≡ with_value n x env)) is (boxes e rank))
       (λ u m middle at kept i. absurd i)
 
-  pub does-variable : (k : ValueKind) (held : VarState) → v.state ≡ held → Fits k held → Does vectors s n env (named_by k) (source.variable held) Leaves
+  pub does-variable : (k : ValueKind) (held : VarState) → v.state ≡ held → Fits k held → Does vectors s n env (named_by id k) (source.variable held) Leaves
   does-variable (kind.Place e) (state.Scalar z) is h = loads e z is
   does-variable (kind.Declared e shape) (state.Array a) is h = declares e shape a is h
   does-variable (kind.Allocatable e rank) (state.Array a) is h = keeps_box e rank a is h

@@ -22,6 +22,7 @@ use Rattle.hlfir_ops.specs.RulesForms.{result_elem}
 use Rattle.hlfir_meaning.specs.Environments.{Environment, scalar_in}
 use Rattle.hlfir_meaning.specs.Operators as operators
 use Rattle.hlfir_meaning.specs.Operators.{operation_value, operation_map}
+use Rattle.hlfir_meaning.specs.Stage1.{stage1}
 use Rattle.lower_values.specs.declared.operand.Operand.{Operand}
 use Rattle.lower_values.specs.Scopes.{Scope}
 use Rattle.lower_values.specs.Lowerings.{Lowering, done, ◌>>=◌ as ◌then◌}
@@ -120,9 +121,9 @@ module _ (op : ValueBinary) (w : CallWord) (f : ℤ → ℤ → ℤ) (total : �
         let all = t ∷ (ts ++ u ∷ []) in
         let r : Staged Term = settle_if b (Ok (gathered op w f total is all)) in
         subst (λ q. Does vectors s m env (nested_after end_exprs x y) q (λ z v j after. StandsIf b base low j after z v)) (then_nothing r ∙ ap (settle_if b) (sym (called-gives op w f total is t (ts ++ u ∷ []))))
-        (does-then vectors s m env (joined op (Some x) y) (λ z. nested op (Some z) end_exprs) r (λ v. Ok v) (λ z v j after. StandsIf b base low j after z v) (λ z v j after. StandsIf b base low j after z v)
+        (does-then (stage1 vectors) s m env (joined op (Some x) y) (λ z. nested op (Some z) end_exprs) r (λ v. Ok v) (λ z v j after. StandsIf b base low j after z v) (λ z v j after. StandsIf b base low j after z v)
         (does-join vectors base low n s m env x y g l h b among t ts so_far gathers hx u hy)
-        (λ v j after at kept hz. does-done vectors s j after (joined op (Some x) y s m).made v (λ z q i rho. StandsIf b base low i rho z q) hz))
+        (λ v j after at kept hz. does-done (stage1 vectors) s j after (joined op (Some x) y s m).made v (λ z q i rho. StandsIf b base low i rho z q) hz))
 
     abbrev After : Term → Operand → ⊤ → ℕ → Environment → Type 0
     After t z u m after = Stands base low m after z t
@@ -142,7 +143,7 @@ module _ (op : ValueBinary) (w : CallWord) (f : ℤ → ℤ → ℤ) (total : �
         let right : List Term → Staged Term = λ us. source.called w ((t ∷ ts) ++ u ∷ us) in
         let same : left ≡ right = fun_ext (λ us. ap (source.called w) (append_assoc (t ∷ ts) (u ∷ []) us)) in
         subst (λ q. Does vectors s m env (nested_after (more_exprs e es) x y) q (λ v c j after. StandsIf b base low j after v c)) (ap (λ h. settle_if b (source.walks world (more_exprs e es) >>= h)) same)
-        (does-then vectors s m env (joined op (Some x) y) (λ v. nested op (Some v) (more_exprs e es)) (let done : Staged ⊤ = Ok tt in done) (λ _. settle_if b (rest_of all (more_exprs e es)))
+        (does-then (stage1 vectors) s m env (joined op (Some x) y) (λ v. nested op (Some v) (more_exprs e es)) (let done : Staged ⊤ = Ok tt in done) (λ _. settle_if b (rest_of all (more_exprs e es)))
         (After (gathered op w f total is all)) (λ v c j after. StandsIf b base low j after v c) (one.0, one.1, one.2)
         (λ _ j after at kept hz. from e j after z t (ts ++ u ∷ []) (gathered op w f total is all) (omega (arith, at, l, h)) (still_kept m env after (omega (arith, l, h)) since kept) (gathers-more op w f total is t (ts ++ u ∷ [])) hz
         (subst (λ i. ArgumentsStand vectors base start s world op b (Some z) i (more_exprs e es)) (sym at) rest)))
@@ -156,7 +157,7 @@ module _ (op : ValueBinary) (w : CallWord) (f : ℤ → ℤ → ℤ) (total : �
     with_argument es e n env x t ts so_far l since hx here after =
         subst (λ q. Does vectors s n env (nested op (Some x) (more_exprs e es)) q (λ v c j rho. StandsIf b base low j rho v c))
         (sym (reordered b (source.walk world e) (source.walks world es) (λ us. source.called w ((t ∷ ts) ++ us))))
-        (does-then vectors s n env (value e) (nested_after es x) (source.walk world e) (λ u. settle_if b (source.walks world es >>= (λ us. source.called w ((t ∷ ts) ++ u ∷ us))))
+        (does-then (stage1 vectors) s n env (value e) (nested_after es x) (source.walk world e) (λ u. settle_if b (source.walks world es >>= (λ us. source.called w ((t ∷ ts) ++ u ∷ us))))
         (λ y u m rho. Stands base n m rho y u) (λ v c j rho. StandsIf b base low j rho v c) here
         (λ u m middle at kept hy. subst (λ j. Results j middle (nested_after es x (value e s n).made) (source.walks world es >>= (λ us. source.called w ((t ∷ ts) ++ u ∷ us)))) (sym at)
         (after u middle (omega arith) (still_kept n env middle l since kept) (stands-moved base low low n n env middle x so_far (omega arith) (omega arith) (kept-alike base low n env middle g l kept) hx)
@@ -175,8 +176,8 @@ module _ (op : ValueBinary) (w : CallWord) (f : ℤ → ℤ → ℤ) (total : �
         Results n env (joined op None x then (λ z. nested op (Some z) (more_exprs d es))) (source.walks world (more_exprs d es) >>= (λ us. source.called w (t ∷ us)))
     unfolding done
     first_argument es d x n env t l since hx args =
-        does-then vectors s n env (done x) (λ z. nested op (Some z) (more_exprs d es)) (let taken : Staged ⊤ = Ok tt in taken) (λ _. settle_if b (rest_of (t ∷ []) (more_exprs d es)))
-        (After t) (λ v c j rho. StandsIf b base low j rho v c) (does-done vectors s n env x tt (After t) hx) (λ _ m middle at kept hx'. after_it m middle at (still_kept n env middle l since kept) hx')
+        does-then (stage1 vectors) s n env (done x) (λ z. nested op (Some z) (more_exprs d es)) (let taken : Staged ⊤ = Ok tt in taken) (λ _. settle_if b (rest_of (t ∷ []) (more_exprs d es)))
+        (After t) (λ v c j rho. StandsIf b base low j rho v c) (does-done (stage1 vectors) s n env x tt (After t) hx) (λ _ m middle at kept hx'. after_it m middle at (still_kept n env middle l since kept) hx')
       where
         after_it : (m : ℕ) (middle : Environment) → m ≡ n + numbers_of (done x s n).ops → Kept base start middle → Stands base low m middle x t → Results m middle (nested op (Some x) (more_exprs d es)) (rest_of (t ∷ []) (more_exprs d es))
         after_it m middle at since' hx' = let same : m ≡ n = omega (arith, at) in
@@ -190,7 +191,7 @@ module _ (op : ValueBinary) (w : CallWord) (f : ℤ → ℤ → ℤ) (total : �
         let y = (value e s n).made in
         subst (λ q. Does vectors s n env (nested op None (more_exprs e (more_exprs d es))) q (λ v c j rho. StandsIf b base low j rho v c))
         (sym (reordered b (source.walk world e) (source.walks world (more_exprs d es)) (source.called w)))
-        (does-then vectors s n env (value e) first (source.walk world e) (λ t. settle_if b (source.walks world (more_exprs d es) >>= (λ us. source.called w (t ∷ us))))
+        (does-then (stage1 vectors) s n env (value e) first (source.walk world e) (λ t. settle_if b (source.walks world (more_exprs d es) >>= (λ us. source.called w (t ∷ us))))
         (λ x t m rho. Stands base n m rho x t) (λ v c j rho. StandsIf b base low j rho v c) (args.0 env since)
         (λ t m middle at kept hy. first_argument es d y m middle t (omega (arith, at, l)) (still_kept n env middle l since kept) (stands-moved base n low m m middle middle y t l (omega arith) (λ k own. refl) hy)
         (subst (λ j. ArgumentsStand vectors base start s world op b (Some y) j (more_exprs d es)) (let same : n + numbers_of (value e s n).ops + 0 ≡ m = omega (arith, at) in same) args.2)))

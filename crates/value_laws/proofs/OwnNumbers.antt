@@ -39,6 +39,23 @@ use Rattle.value_laws.specs.Standing.{IsOwn}
 use Rattle.value_laws.proofs.Elementals.{own-wider}
 use Rattle.value_laws.proofs.VectorNumbers.{OwnSubscripts, own-none, own-plain, own-append, subscripts-op, among-all}
 
+-- a call is one op without vector subscripts, or an elemental operation
+pub call-forms : (P : Lowering Operand → Type 0) → ((w : What) (os : List ValueId) (k : ValueKind) → subscripts_in w os ≡ [] → P (giving w os k)) →
+    ((w : What) (e : Elem) (xs : List Operand) → ((os : List ValueId) → subscripts_in w os ≡ []) → P (operation w e xs)) → (w : CallWord) (xs : List Operand) → P (call_on w xs)
+unfolding call_on
+call-forms P one each word.Sum xs = one (what.Reduce _) _ _ refl
+call-forms P one each word.Product xs = one (what.Reduce _) _ _ refl
+call-forms P one each word.Minval xs = one (what.Reduce _) _ _ refl
+call-forms P one each word.Maxval xs = one (what.Reduce _) _ _ refl
+call-forms P one each word.Count xs = one (what.Reduce _) _ _ refl
+call-forms P one each word.Any xs = one (what.Reduce _) _ _ refl
+call-forms P one each word.All xs = one (what.Reduce _) _ _ refl
+call-forms P one each word.Abs xs = each (what.Unary _) I32 xs (λ os. refl)
+call-forms P one each word.Mod xs = each (what.Binary _) I32 xs (λ os. refl)
+call-forms P one each word.Modulo xs = each (what.Binary _) I32 xs (λ os. refl)
+call-forms P one each word.Merge xs = each what.Select _ xs (λ os. refl)
+call-forms P one each w xs = each what.Select I32 xs (λ os. refl)
+
 module _ (base : ℕ) (s : Scope) where
   pub record IsTidy {A : Type 0} (low n : ℕ) (p : Lowering A) (P : ℕ → A → Type 0) : Type 0 where
     pub subscripts : OwnSubscripts base low n (p s n).ops
@@ -112,19 +129,7 @@ module _ (base : ℕ) (s : Scope) where
     tidy-vector xs = tidy-giving what.Vector _ _ refl
 
     pub tidy-call : (w : CallWord) (xs : List Operand) → IsTidy low n (call_on w xs) (HasOwn low)
-    unfolding call_on
-    tidy-call word.Sum xs = tidy-giving (what.Reduce _) _ _ refl
-    tidy-call word.Product xs = tidy-giving (what.Reduce _) _ _ refl
-    tidy-call word.Minval xs = tidy-giving (what.Reduce _) _ _ refl
-    tidy-call word.Maxval xs = tidy-giving (what.Reduce _) _ _ refl
-    tidy-call word.Count xs = tidy-giving (what.Reduce _) _ _ refl
-    tidy-call word.Any xs = tidy-giving (what.Reduce _) _ _ refl
-    tidy-call word.All xs = tidy-giving (what.Reduce _) _ _ refl
-    tidy-call word.Abs xs = tidy-operation (what.Unary _) I32 xs (λ os. refl)
-    tidy-call word.Mod xs = tidy-operation (what.Binary _) I32 xs (λ os. refl)
-    tidy-call word.Modulo xs = tidy-operation (what.Binary _) I32 xs (λ os. refl)
-    tidy-call word.Merge xs = tidy-operation what.Select _ xs (λ os. refl)
-    tidy-call w xs = tidy-operation what.Select I32 xs (λ os. refl)
+    tidy-call w xs = call-forms (λ p. IsTidy low n p (HasOwn low)) tidy-giving tidy-operation w xs
 
     -- ---- names
 

@@ -1,19 +1,22 @@
--- A whole array has its values, in array element order.
-use Rattle.std.proofs.Common.{◌≡◌, refl, ap, ◌∙◌, ℕ, ◌<◌, List, [], ◌∷◌, map, All, Ok, ℤ}
+-- A whole array has its values, in array element order, and its own places as targets.
+use Rattle.std.proofs.Common.{◌≡◌, refl, ap, ◌∙◌, ℕ, ◌<◌, List, [], ◌∷◌, map, All, Ok, ℤ, Result}
 use Rattle.std.proofs.lemmas.List.Elements.{All-head, All-tail}
 use Rattle.std.specs.Prelude.{◌/◌}
 use Rattle.ws_base.specs.Outcomes.{Staged, ◌>>=◌, joined, each, rows, pair_up}
+use Rattle.ws_base.specs.declared.fault.FaultName.{FaultName}
 use Rattle.ws_space.specs.declared.shape.Dim.{Dim}
 use Rattle.ws_space.specs.declared.state.ArrayValue.{ArrayValue}
-use Rattle.ws_space.specs.Shapes.{size, dims, extents_of}
+use Rattle.ws_space.specs.Shapes.{size, dims, extents_of, Extents, place}
 use Rattle.ws_space.specs.Values.{value_at, element}
-use Rattle.ws_space.specs.Sections.{beyond, full_column, elements_at}
+use Rattle.ws_space.specs.Sections.{beyond, full_column, elements_at, places_at}
 use Rattle.ws_space.proofs.Places.{element_at, place-element_at}
 use Rattle.array_meaning.specs.declared.term.Pick.TheVariants as pick
 use Rattle.array_meaning.specs.declared.term.Pick.TheBlock.{hidden-the_row-Pick-0}
 use Rattle.array_meaning.specs.Terms.{terms_open}
 use Rattle.array_meaning.specs.Stage1.{whole_array}
-use Rattle.array_meaning.specs.Stage2.{columns, values}
+use Rattle.array_meaning.specs.Stage2 as later
+use Rattle.array_meaning.specs.Stage2.{columns, values, targets}
+use Rattle.hlfir_meaning.specs.Selections.{array_operand}
 
 full_columns : List Dim → List ℕ → List (List ℤ)
 full_columns [] at = []
@@ -34,17 +37,33 @@ unfolding full_columns
 rows-full [] x xs p ps = refl
 rows-full (d ∷ ds) x xs p ps = ap (pair_up (full_column d (p ∷ ps))) (rows-full ds x xs (p / d.extent) (beyond d.extent ps))
 
-module _ (a : ArrayValue) where
-  element-there : (p : ℕ) → p < size (extents_of (dims a.shape)) → element a (element_at (dims a.shape) p) ≡ Ok (value_at a.values p)
-  element-there p h = ap (λ r. r >>= (λ q. Ok (value_at a.values q))) (place-element_at (dims a.shape) p h)
+-- what is had at each element of a whole array stands in order
+each-full : {A : Type 0} (ds : List Dim) (f : List ℤ → Result A FaultName) (g : ℕ → A) → ((p : ℕ) → p < size (extents_of ds) → f (element_at ds p) ≡ Ok (g p)) →
+    (at : List ℕ) → All (λ p. p < size (extents_of ds)) at → each f (rows at (full_columns ds at)) ≡ Ok (map g at)
+each-full ds f g has [] h = ap (each f) (rows-none ds)
+each-full ds f g has (p ∷ ps) h =
+    ap (each f) (rows-full ds p ps p ps)
+    ∙ (ap (λ y. joined y (each f (rows ps (full_columns ds ps)))) (has p (All-head (λ q. q < size (extents_of ds)) p ps h))
+    ∙ ap (joined (Ok (g p))) (each-full ds f g has ps (All-tail (λ q. q < size (extents_of ds)) p ps h)))
 
-  each-full : (at : List ℕ) → All (λ p. p < size (extents_of (dims a.shape))) at → each (element a) (rows at (full_columns (dims a.shape) at)) ≡ Ok (map (value_at a.values) at)
-  each-full [] h = ap (each (element a)) (rows-none (dims a.shape))
-  each-full (p ∷ ps) h =
-      ap (each (element a)) (rows-full (dims a.shape) p ps p ps)
-      ∙ (ap (λ y. joined y (each (element a) (rows ps (full_columns (dims a.shape) ps)))) (element-there p (All-head (λ q. q < size (extents_of (dims a.shape))) p ps h))
-      ∙ ap (joined (Ok (value_at a.values p))) (each-full ps (All-tail (λ q. q < size (extents_of (dims a.shape))) p ps h)))
+same_places : (at : List ℕ) → map (λ p. p) at ≡ at
+same_places [] = refl
+same_places (p ∷ ps) = ap (λ qs. p ∷ qs) (same_places ps)
 
-  pub whole-values : (at : List ℕ) → All (λ p. p < size (extents_of (dims a.shape))) at → values (whole_array a) at ≡ Ok (map (value_at a.values) at)
+module _ (a : ArrayValue) (at : List ℕ) (h : All (λ p. p < size (extents_of (dims a.shape))) at) where
+  pub whole-values : values (whole_array a) at ≡ Ok (map (value_at a.values) at)
   unfolding terms_open
-  whole-values at h = ap (λ r. r >>= elements_at a at) (columns-full (dims a.shape) at) ∙ each-full at h
+  whole-values = ap (λ r. r >>= elements_at a at) (columns-full (dims a.shape) at)
+      ∙ each-full (dims a.shape) (element a) (value_at a.values) (λ p low. ap (λ r. r >>= (λ q. Ok (value_at a.values q))) (place-element_at (dims a.shape) p low)) at h
+
+  -- the places themselves
+  pub whole-targets : targets (whole_array a) at ≡ Ok at
+  unfolding terms_open
+  whole-targets = ap (λ r. r >>= places_at a at) (columns-full (dims a.shape) at)
+      ∙ (each-full (dims a.shape) (place (dims a.shape)) (λ p. p) (place-element_at (dims a.shape)) at h ∙ ap (λ ps. let r : Staged (List ℕ) = Ok ps in r) (same_places at))
+
+-- ---- array operands
+
+pub same_operand : (e : Extents) → array_operand e ≡ later.array_operand e
+same_operand [] = refl
+same_operand (n ∷ ns) = refl

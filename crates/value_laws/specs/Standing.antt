@@ -10,7 +10,7 @@ use Rattle.hlfir_ops.specs.declared.kinds.ValueKind.{ValueKind}
 use Rattle.hlfir_ops.specs.declared.op.Op.{Op}
 use Rattle.hlfir_ops.specs.Numbers.{numbers_of}
 use Rattle.hlfir_ops.specs.RulesValues.{rank_of}
-use Rattle.hlfir_meaning.specs.Environments.{Value, scalar, Environment, Deferred}
+use Rattle.hlfir_meaning.specs.Environments.{Value, scalar, Environment, Yielded, Deferred}
 use Rattle.hlfir_meaning.specs.Places.{column_at}
 use Rattle.hlfir_meaning.specs.Stage1.{stage1, vector}
 use Rattle.hlfir_meaning.specs.Stage2.{operands, deferred_by, stage2}
@@ -19,25 +19,40 @@ use Rattle.lower_values.specs.Scopes.{Scope}
 use Rattle.lower_values.specs.Lowerings.{Lowering}
 use Rattle.value_laws.specs.Variables.{IsWholeWhereNamed}
 
--- ---- stage 1
+-- ---- walks through ops
+
+-- what is yielded at the end of a walk; the values are numbered from this number on
+abbrev pub Walk : Type 0
+Walk = ℕ → Environment → List Op → Staged Yielded
 
 -- what stood below this number stands there still
 abbrev pub Kept : ℕ → Environment → Environment → Type 0
 Kept n env after = (k : ℕ) → k < n → after k ≡ env k
 
 -- from the value of this number on, the walk passes these ops without a fault
-pub record Passes (vectors : List ℕ) (n : ℕ) (env : Environment) (ops : List Op) (after : Environment) : Type 0 where
-  pub walked : (rest : List Op) → stage1 vectors n env (ops ++ rest) ≡ stage1 vectors (n + numbers_of ops) after rest
+pub record PassesBy (walk : Walk) (n : ℕ) (env : Environment) (ops : List Op) (after : Environment) : Type 0 where
+  pub walked : (rest : List Op) → walk n env (ops ++ rest) ≡ walk (n + numbers_of ops) after rest
   pub kept : Kept n env after
 
 -- the walk through these ops ends in the same fault, or passes them and leaves what stands for the same value
-abbrev pub Goes : {A : Type 0} → List ℕ → ℕ → Environment → List Op → Staged A → (A → Environment → Type 0) → Type 0
-Goes vectors n env ops (Ok a) P = (after : Environment) × Passes vectors n env ops after × P a after
-Goes vectors n env ops (Err t) P = (rest : List Op) → stage1 vectors n env (ops ++ rest) ≡ Err t
+abbrev pub GoesBy : {A : Type 0} → Walk → ℕ → Environment → List Op → Staged A → (A → Environment → Type 0) → Type 0
+GoesBy walk n env ops (Ok a) P = (after : Environment) × PassesBy walk n env ops after × P a after
+GoesBy walk n env ops (Err t) P = (rest : List Op) → walk n env (ops ++ rest) ≡ Err t
 
 -- the same of a lowering, from the next free number on; the relation is on what it made, the value, and the next free number after it
+abbrev pub DoesBy : {A B : Type 0} → Walk → Scope → ℕ → Environment → Lowering A → Staged B → (A → B → ℕ → Environment → Type 0) → Type 0
+DoesBy walk s n env p r Q = GoesBy walk n env (p s n).ops r (λ b after. Q (p s n).made b (n + numbers_of (p s n).ops) after)
+
+-- ---- stage 1
+
+abbrev pub Passes : List ℕ → ℕ → Environment → List Op → Environment → Type 0
+Passes vectors = PassesBy (stage1 vectors)
+
+abbrev pub Goes : {A : Type 0} → List ℕ → ℕ → Environment → List Op → Staged A → (A → Environment → Type 0) → Type 0
+Goes vectors n env ops r P = GoesBy (stage1 vectors) n env ops r P
+
 abbrev pub Does : {A B : Type 0} → List ℕ → Scope → ℕ → Environment → Lowering A → Staged B → (A → B → ℕ → Environment → Type 0) → Type 0
-Does vectors s n env p r Q = Goes vectors n env (p s n).ops r (λ b after. Q (p s n).made b (n + numbers_of (p s n).ops) after)
+Does vectors s n env p r Q = DoesBy (stage1 vectors) s n env p r Q
 
 -- ---- stage 2
 

@@ -45,7 +45,7 @@ module _ (values : ValuesMean) (lefts : LeftsMean) (takes : TakesInWhere) (t : L
   -- an ELSEWHERE with a mask, where its block and what follows it are alike
   module _ {m k : Count} (c : Control) (line : ℕ) (test : Expr) (block : Stmts m) (rest : Elses k) (s : Scope) (n : ℕ) where
     abbrev next_op : Op
-    next_op = op_of what.Elsewhere line [] None (region_of (its_mask line block s n test) ∷ region_of (its_block line block s n test) ∷ [])
+    next_op = op_of what.Elsewhere line [] None (region_of (its_mask what.Elsewhere line test block s n) ∷ region_of (its_block what.Elsewhere line test block s n) ∷ [])
 
     next_alike : InScope t true s n → IsSide test → faults t false line test ≡ [] →
         ((j : ℕ) (r : Scope) (o : ℕ) → InScope t true r o → Alike r.names (source.block (held j) block) (block_of (held j) o (statements block r o).ops)) →
@@ -54,9 +54,9 @@ module _ (values : ValuesMean) (lefts : LeftsMean) (takes : TakesInWhere) (t : L
         (elsewheres_of c n ((elsewhere line (Some test) (statements block) >>= (λ _. elsewheres rest)) s n).ops)
     next_alike h is f blocks elses =
         let here = inside what.Elsewhere line 0 (n + 0) s in
-        let a = its_mask line block s n test in
-        let z = its_block line block s n test in
-        let two = block_number line block s n test in
+        let a = its_mask what.Elsewhere line test block s n in
+        let z = its_block what.Elsewhere line test block s n in
+        let two = block_number what.Elsewhere line test block s n in
         let after = n + (op_numbers next_op + 0) in
         let later = (elsewheres rest s after).ops in
         let mask = mask_stands values lefts t true line test here ((n + 0) + 0) n c (omega arith) (region_scope t true true s n what.Elsewhere line 0 (n + 0) ((n + 0) + 0) refl (omega arith) refl h) (sides_are_expressions t false line test is f) f in

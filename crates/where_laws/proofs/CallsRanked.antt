@@ -13,7 +13,7 @@ use Rattle.array_meaning.specs.Terms.{terms_open}
 use Rattle.array_meaning.specs.Stage2.{operands, whole}
 use Rattle.array_meaning.specs.Stage1.{with_scalar, scalars, elemental_on, called, reduced}
 use Rattle.array_meaning.proofs.Chains.{after_each}
-use Rattle.kind_laws.proofs.Arguments.{argued}
+use Rattle.kind_laws.proofs.Arguments.{argued, not_mixed}
 use Rattle.kind_laws.proofs.TypeFacts.{same_type, chosen_type, not_chosen}
 use Rattle.kind_laws.proofs.NoFaults.{left_false, right_false}
 use Rattle.kind_laws.proofs.CallsMade.{call_result}
@@ -31,23 +31,19 @@ rank_grows : (c : Arguments) (tys : List Typed) → c.rank ≤ (argued c tys).ra
 rank_grows c [] = omega arith
 rank_grows c (a ∷ tys) = let rest = rank_grows (with_argument c (Some a)) tys in omega (arith, rest)
 
-mixed_before : (c : Arguments) (tys : List Typed) → (argued c tys).mixed ≡ false → c.mixed ≡ false
-mixed_before c [] h = h
-mixed_before c (a ∷ tys) h = left_false c.mixed (differ c.rank a.rank) (mixed_before (with_argument c (Some a)) tys h)
-
 -- a rank before that is not 0 is the last one
 agrees_after : (c : Arguments) (tys : List Typed) → (argued c tys).mixed ≡ false → 0 < c.rank → c.rank ≡ (argued c tys).rank
 agrees_after c [] h low = refl
 agrees_after c (a ∷ tys) h low =
     let next = with_argument c (Some a) in
-    let one : differ c.rank a.rank ≡ false = right_false c.mixed (differ c.rank a.rank) (mixed_before next tys h) in
+    let one : differ c.rank a.rank ≡ false = right_false c.mixed (differ c.rank a.rank) (not_mixed next tys h) in
     let same : c.rank ≡ next.rank = agree_first c.rank a.rank one low in
     same ∙ agrees_after next tys h (omega (arith, low, same))
 
 this_agrees : (c : Arguments) (a : Typed) (tys : List Typed) → (argued (with_argument c (Some a)) tys).mixed ≡ false → 0 < a.rank → a.rank ≡ (argued (with_argument c (Some a)) tys).rank
 this_agrees c a tys h low =
     let next = with_argument c (Some a) in
-    let one : differ c.rank a.rank ≡ false = right_false c.mixed (differ c.rank a.rank) (mixed_before next tys h) in
+    let one : differ c.rank a.rank ≡ false = right_false c.mixed (differ c.rank a.rank) (not_mixed next tys h) in
     let same : a.rank ≡ next.rank = agree_second c.rank a.rank one low in
     same ∙ agrees_after next tys h (omega (arith, low, same))
 
@@ -80,8 +76,9 @@ scalar_none : (o : Option (List ℤ)) (z : ℤ) → with_scalar o (Scalar z) ≡
 scalar_none (Some us) z h = let f : ⊥ = cc in absurd f
 scalar_none None z h = refl
 
-no_scalars : {P : Type 0} (o : Option (List ℤ)) (vs : List ℤ) → o ≡ None → o ≡ Some vs → P
-no_scalars o vs h g = let f : ⊥ = cc in absurd f
+no_scalars : {P : Type 0} (t : Term) (o : Option (List ℤ)) (vs : List ℤ) → ((us : List ℤ) → with_scalar (Some us) t ≡ None) → with_scalar None t ≡ None → with_scalar o t ≡ Some vs → P
+no_scalars t (Some us) vs some none h = let f : ⊥ = cc (some us) in absurd f
+no_scalars t None vs some none h = let f : ⊥ = cc in absurd f
 
 all_scalar : (c : Arguments) (tys : List Typed) (ts : List Term) (vs : List ℤ) → scalars ts ≡ Some vs → EachRanked tys ts → (argued c tys).rank ≡ c.rank
 all_scalar c [] ts vs h g = refl
@@ -91,26 +88,11 @@ all_scalar c (a ∷ tys) (Scalar z ∷ ts) vs h g =
     let next : (argued (with_argument c (Some a)) tys).rank ≡ max c.rank a.rank = all_scalar (with_argument c (Some a)) tys ts rest.0 rest.1 g.1 in
     let bare : a.rank ≡ 0 = g.0 in
     next ∙ omega (arith, bare)
-all_scalar c (a ∷ tys) (Listed xs ∷ ts) vs h g = no_scalars (with_scalar (scalars ts) (Listed xs)) vs (none_of (scalars ts)) h where
-  none_of : (o : Option (List ℤ)) → with_scalar o (Listed xs) ≡ None
-  none_of (Some us) = refl
-  none_of None = refl
-all_scalar c (a ∷ tys) (Section' b i ps ∷ ts) vs h g = no_scalars (with_scalar (scalars ts) (Section' b i ps)) vs (none_of (scalars ts)) h where
-  none_of : (o : Option (List ℤ)) → with_scalar o (Section' b i ps) ≡ None
-  none_of (Some us) = refl
-  none_of None = refl
-all_scalar c (a ∷ tys) (Unary' op i us ∷ ts) vs h g = no_scalars (with_scalar (scalars ts) (Unary' op i us)) vs (none_of (scalars ts)) h where
-  none_of : (o : Option (List ℤ)) → with_scalar o (Unary' op i us) ≡ None
-  none_of (Some x) = refl
-  none_of None = refl
-all_scalar c (a ∷ tys) (Binary' op i us j ws ∷ ts) vs h g = no_scalars (with_scalar (scalars ts) (Binary' op i us j ws)) vs (none_of (scalars ts)) h where
-  none_of : (o : Option (List ℤ)) → with_scalar o (Binary' op i us j ws) ≡ None
-  none_of (Some x) = refl
-  none_of None = refl
-all_scalar c (a ∷ tys) (Call' w i us ∷ ts) vs h g = no_scalars (with_scalar (scalars ts) (Call' w i us)) vs (none_of (scalars ts)) h where
-  none_of : (o : Option (List ℤ)) → with_scalar o (Call' w i us) ≡ None
-  none_of (Some x) = refl
-  none_of None = refl
+all_scalar c (a ∷ tys) (Listed xs ∷ ts) vs h g = no_scalars (Listed xs) (scalars ts) vs (λ us. refl) refl h
+all_scalar c (a ∷ tys) (Section' b i ps ∷ ts) vs h g = no_scalars (Section' b i ps) (scalars ts) vs (λ us. refl) refl h
+all_scalar c (a ∷ tys) (Unary' op i us ∷ ts) vs h g = no_scalars (Unary' op i us) (scalars ts) vs (λ us. refl) refl h
+all_scalar c (a ∷ tys) (Binary' op i us j ws ∷ ts) vs h g = no_scalars (Binary' op i us j ws) (scalars ts) vs (λ us. refl) refl h
+all_scalar c (a ∷ tys) (Call' w i us ∷ ts) vs h g = no_scalars (Call' w i us) (scalars ts) vs (λ us. refl) refl h
 
 array_here : (c : Arguments) (a : Typed) (tys : List Typed) → 0 < a.rank → 0 < (argued (with_argument c (Some a)) tys).rank
 array_here c a tys low = let grows : max c.rank a.rank ≤ (argued (with_argument c (Some a)) tys).rank = rank_grows (with_argument c (Some a)) tys in omega (arith, grows, low)

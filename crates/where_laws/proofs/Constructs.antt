@@ -13,6 +13,7 @@ use Rattle.ws_types.specs.Expressions.{faults}
 use Rattle.ws_types.specs.Steps as source
 use Rattle.ws_sema.specs.declared.within.Within.TheVariants as within
 use Rattle.ws_sema.specs.Statements.{left_faults, left_type, control_faults, body_faults}
+use Rattle.hlfir_ops.specs.declared.what.What.{What}
 use Rattle.hlfir_ops.specs.declared.what.What.TheVariants as what
 use Rattle.hlfir_ops.specs.declared.op.Op.{Op}
 use Rattle.hlfir_ops.specs.Trees.{op_of, region_of}
@@ -53,24 +54,26 @@ abbrev pub is_more : {k : Count} → Elses k → Bool
 is_more end_elses = false
 is_more (more_elses e es) = true
 
+-- the ops of a mask that is the first region of an op, and those of a block that is its second
+module _ {m : Count} (w : What) (line : ℕ) (test : Expr) (block : Stmts m) (s : Scope) (n : ℕ) where
+  abbrev pub its_mask : List Op
+  its_mask = (yielded (value test) (inside w line 0 (n + 0) s) ((n + 0) + 0)).ops
+
+  abbrev pub block_number : ℕ
+  block_number = (n + 0) + (0 + numbers_of its_mask)
+
+  abbrev pub its_block : List Op
+  its_block = (statements block (inside w line 1 block_number s) (block_number + 0)).ops
+
 module _ {m k : Count} (line : ℕ) (test : Expr) (block : Stmts m) (rest : Elses k) (s : Scope) (n : ℕ) where
-  abbrev pub first : List Op
-  first = (yielded (value test) (inside what.Masked line 0 (n + 0) s) ((n + 0) + 0)).ops
-
-  abbrev pub second_number : ℕ
-  second_number = (n + 0) + (0 + numbers_of first)
-
-  abbrev pub second : List Op
-  second = (statements block (inside what.Masked line 1 second_number s) (second_number + 0)).ops
-
   abbrev pub third_number : ℕ
-  third_number = second_number + (0 + numbers_of second)
+  third_number = block_number what.Masked line test block s n + (0 + numbers_of (its_block what.Masked line test block s n))
 
   abbrev pub last : List Op
   last = (elsewheres rest (inside what.Masked line 2 third_number s) (third_number + 0)).ops
 
   abbrev pub where_op : Op
-  where_op = op_of what.Masked line [] None (region_of first ∷ region_of second ∷ third_regions (is_more rest) last)
+  where_op = op_of what.Masked line [] None (region_of (its_mask what.Masked line test block s n) ∷ region_of (its_block what.Masked line test block s n) ∷ third_regions (is_more rest) last)
 
 third_list : {k : Count} (line n : ℕ) (rest : Elses k) (s : Scope) → regions_from what.Masked line 2 n (third rest (elsewheres rest)) s ≡ third_regions (is_more rest) (elsewheres rest (inside what.Masked line 2 n s) (n + 0)).ops
 third_list line n end_elses s = refl
@@ -83,7 +86,7 @@ MaskedOps line s n body = Unit {0}
 pub masked_ops : (line : ℕ) (s : Scope) (n : ℕ) (body : Body) → MaskedOps line s n body
 unfolding statement_of
 masked_ops line s n (Masked' test h block j rest) =
-    ap (λ l. op_of what.Masked line [] None (region_of (first line test block rest s n) ∷ region_of (second line test block rest s n) ∷ l) ∷ []) (third_list line (third_number line test block rest s n) rest s)
+    ap (λ l. op_of what.Masked line [] None (region_of (its_mask what.Masked line test block s n) ∷ region_of (its_block what.Masked line test block s n) ∷ l) ∷ []) (third_list line (third_number line test block rest s n) rest s)
 masked_ops line s n (Assign a b) = tt
 masked_ops line s n (Forall' is test h ss) = tt
 masked_ops line s n (Loop' x a b c h ss) = tt
@@ -112,19 +115,10 @@ module _ {m : Count} (line : ℕ) (block : Stmts m) (s : Scope) (n : ℕ) where
   unfolding statement_of
   last_ops = refl
 
-  module _ (test : Expr) where
-    abbrev pub its_mask : List Op
-    its_mask = (yielded (value test) (inside what.Elsewhere line 0 (n + 0) s) ((n + 0) + 0)).ops
-
-    abbrev pub block_number : ℕ
-    block_number = (n + 0) + (0 + numbers_of its_mask)
-
-    abbrev pub its_block : List Op
-    its_block = (statements block (inside what.Elsewhere line 1 block_number s) (block_number + 0)).ops
-
-    pub next_ops : (elsewhere line (Some test) (statements block) s n).ops ≡ op_of what.Elsewhere line [] None (region_of its_mask ∷ region_of its_block ∷ []) ∷ []
-    unfolding statement_of
-    next_ops = refl
+  pub next_ops : (test : Expr) → (elsewhere line (Some test) (statements block) s n).ops ≡
+      op_of what.Elsewhere line [] None (region_of (its_mask what.Elsewhere line test block s n) ∷ region_of (its_block what.Elsewhere line test block s n) ∷ []) ∷ []
+  unfolding statement_of
+  next_ops test = refl
 
 -- ---- the events of each
 
@@ -163,9 +157,9 @@ module _ (values : ValuesMean) (lefts : LeftsMean) (takes : TakesInWhere) (t : L
         Alike s.names (source.masking line test c (λ j. source.both (source.block (held j) block) (source.otherwise (failed j) rest))) (ops.inside c n (where_op line test block rest s n))
     where_alike h is f blocks elses =
         let here = inside what.Masked line 0 (n + 0) s in
-        let a = first line test block rest s n in
-        let z = second line test block rest s n in
-        let two = second_number line test block rest s n in
+        let a = its_mask what.Masked line test block s n in
+        let z = its_block what.Masked line test block s n in
+        let two = block_number what.Masked line test block s n in
         let three = third_number line test block rest s n in
         let mask = mask_stands values lefts t true line test here ((n + 0) + 0) n c (omega arith) (region_scope t b true s n what.Masked line 0 (n + 0) ((n + 0) + 0) refl (omega arith) refl h) (sides_are_expressions t false line test is f) f in
         subst (Alike s.names (source.masking line test c (λ j. source.both (source.block (held j) block) (source.otherwise (failed j) rest)))) (sym (inside-masked c line [] None n a z (is_more rest) (last line test block rest s n)))

@@ -1,10 +1,11 @@
 -- The active places of a step lie inside the one shape of its operands.
-use Rattle.std.proofs.Common.{◌≡◌, refl, sym, ap, subst, ℕ, zero, suc, ◌+◌, ◌<◌, ◌≤◌, Bool, true, false, List, [], ◌∷◌, ◌++◌, All, ℤ, arith, if◌then◌else◌}
+use Rattle.std.proofs.Common.{◌≡◌, refl, sym, ap, subst, ℕ, zero, suc, ◌+◌, ◌<◌, Bool, true, false, List, [], ◌∷◌, ◌++◌, All, ℤ, arith, if◌then◌else◌}
 use Rattle.std.proofs.lemmas.List.Elements.{All-nil, All-cons, All-head, All-tail, All-append}
 use Rattle.ws_base.specs.Numbers.{is_true}
-use Rattle.ws_space.specs.Shapes.{Extents, size, places_from, all_places}
+use Rattle.ws_space.specs.Shapes.{Extents, size, all_places}
 use Rattle.ws_space.specs.Masks.{same_truth, chosen, Split, split_by, Control, everywhere, held, failed, split_at, active, shapes_of}
 use Rattle.value_laws.specs.Standing.{AreIn}
+use Rattle.value_laws.proofs.Evaluated.{below_end}
 
 -- places of an array of this shape
 abbrev pub AreWithin : Extents → List ℕ → Type 0
@@ -18,10 +19,6 @@ pub within_each : (e : Extents) (at : List ℕ) (es : List Extents) → AreWithi
 within_each e at [] h g = All-nil (λ f. AreWithin f at)
 within_each e at (f ∷ es) h g =
     All-cons (λ f. AreWithin f at) f es (subst (λ x. AreWithin x at) (sym (All-head (λ x. x ≡ e) f es g)) h) (within_each e at es h (All-tail (λ x. x ≡ e) f es g))
-
-below_end : (k n m : ℕ) → k + n ≤ m → All (λ p. p < m) (places_from k n)
-below_end k zero m h = All-nil (λ p. p < m)
-below_end k (suc n) m h = All-cons (λ p. p < m) k (places_from (suc k) n) (omega (arith, h)) (below_end (suc k) n m (omega (arith, h)))
 
 pub all_within : (e : Extents) → AreWithin e (all_places e)
 all_within e = below_end 0 (size e) (size e) (omega arith)

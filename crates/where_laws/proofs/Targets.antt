@@ -23,21 +23,18 @@ use Rattle.lower_values.specs.declared.names.Names.{Names}
 use Rattle.value_laws.specs.Standing.{AreIn}
 use Rattle.value_laws.proofs.Evaluated.{agreed-all}
 use Rattle.value_laws.proofs.Names.{whole_operands}
+use Rattle.value_laws.proofs.Wholes.{whole-targets, same_operand}
 use Rattle.world_laws.specs.Worlds.{FitsNames}
 use Rattle.world_laws.specs.Yields.{YieldStands, TargetStands}
 use Rattle.where_laws.proofs.Same.{Same, same_then, same_equal}
-use Rattle.where_laws.proofs.Wholes.{whole-targets, whole-array}
+use Rattle.where_laws.proofs.Wholes.{whole-array}
 use Rattle.where_laws.proofs.Places.{AreWithin, HaveShape, have_first, have_after}
 
 -- ---- conformance
 
-array_operand-same : (e : Extents) → array_operand e ≡ stage2.array_operand e
-array_operand-same [] = refl
-array_operand-same (n ∷ ns) = refl
-
 pub step_shape-same : (others : List Extents) (t : Target) (q : source.Target) → TargetStands t q → step_shape others t ≡ source.step_shape others q
 step_shape-same others (all_of a) (source.selection t) h =
-    ap (λ o. agreed (others ++ o)) (array_operand-same (extents_of (dims a.shape)) ∙ (sym (whole_operands a) ∙ ap stage2.operands (sym h)))
+    ap (λ o. agreed (others ++ o)) (same_operand (extents_of (dims a.shape)) ∙ (sym (whole_operands a) ∙ ap stage2.operands (sym h)))
 step_shape-same others (all_of a) (source.movable r) h = absurd h
 step_shape-same others (selected a s) (source.selection t) h = ap (λ o. agreed (others ++ o)) h.1
 step_shape-same others (selected a s) (source.movable r) h = absurd h

@@ -1,9 +1,8 @@
 -- That lowered parts mean what their sources mean: expressions, left sides, statements, programs.
-use Rattle.std.specs.Prelude.{◌≡◌, ℕ, ◌+◌, ◌<◌, ◌≤◌, Bool, false, not, ◌&&◌, List, [], ◌∷◌, length, map, Result, Ok, Err}
+use Rattle.std.specs.Prelude.{◌≡◌, ℕ, ◌<◌, ◌≤◌, Bool, false, not, ◌&&◌, List, [], ◌∷◌, length, map, Result, Ok, Err}
 use Rattle.std.specs.List.{All}
 use Rattle.ws_base.specs.declared.fault.Fault.{Fault}
 use Rattle.ws_space.specs.declared.state.Var.{Var}
-use Rattle.ws_space.specs.Values.{is_among}
 use Rattle.ws_tree.specs.declared.expr.Expr.{Expr}
 use Rattle.ws_tree.specs.declared.stmt.Body.{Body}
 use Rattle.ws_tree.specs.declared.stmt.Body.TheVariants.{Assign, Masked', Forall'}
@@ -21,9 +20,7 @@ use Rattle.array_meaning.specs.Stage1 as source
 use Rattle.array_meaning.specs.Assign as assigned
 use Rattle.array_meaning.specs.Program as program
 use Rattle.hlfir_ops.specs.declared.op.Op.{Op, out-Op}
-use Rattle.hlfir_ops.specs.Numbers.{numbers_of}
 use Rattle.hlfir_meaning.specs.Environments.{scalar, Environment, of_variables}
-use Rattle.hlfir_meaning.specs.Stage1.{subscript_numbers}
 use Rattle.hlfir_meaning.specs.Statements.{simple}
 use Rattle.hlfir_meaning.specs.Meaning.{meaning}
 use Rattle.lower_values.specs.declared.names.Names.{Names}
@@ -35,6 +32,7 @@ use Rattle.lower_constructs.specs.Modules.{statement, lowered}
 use Rattle.kind_laws.specs.Standing.{Knows}
 use Rattle.world_laws.specs.Worlds.{FitsNames}
 use Rattle.value_laws.specs.Standing.{Does}
+use Rattle.value_laws.specs.Vectors.{VectorsAre}
 use Rattle.world_laws.specs.Yields.{Yields, scalars_of, Reaches}
 
 -- outside FORALL, in a world that fits the names; all variables have numbers below this one
@@ -53,12 +51,9 @@ ValuesMean = (t : List Row) (line : ℕ) (e : Expr) (s : Scope) (n : ℕ) (w : W
 abbrev pub IsIntegerScalar : List Row → ℕ → Expr → Type 0
 IsIntegerScalar t line e = IsExpr e × (faults t false line e ≡ []) × (scalar_faults line (typed t false e) ≡ [])
 
-abbrev pub AreVectorsOf : List ℕ → ℕ → List Op → Type 0
-AreVectorsOf vectors n ops = (v : ℕ) → n ≤ v → v < n + numbers_of ops → is_among v vectors ≡ is_among v (subscript_numbers ops)
-
 abbrev pub ListsMean : Type 0
 ListsMean = (t : List Row) (line : ℕ) (es : List Expr) (s : Scope) (n : ℕ) (w : World) (vectors : List ℕ) (env : Environment) → StandsOutside t s w n → ((k : ℕ) → k < length w.vars → env k ≡ of_variables w.vars k) →
-    All (IsIntegerScalar t line) es → AreVectorsOf vectors n (values es s n).ops → Does vectors s n env (values es) (scalars_of w es) (λ xs zs after rho. map (λ x. rho x.value.number) xs ≡ map scalar zs)
+    All (IsIntegerScalar t line) es → VectorsAre vectors n (values es s n).ops → Does vectors s n env (values es) (scalars_of w es) (λ xs zs after rho. map (λ x. rho x.value.number) xs ≡ map scalar zs)
 
 -- The Bool says that a whole allocatable is its box, as in a WHERE and in READ.
 abbrev pub LeftsMean : Type 0

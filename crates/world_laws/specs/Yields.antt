@@ -14,21 +14,18 @@ use Rattle.array_meaning.specs.Stage1 as once
 use Rattle.array_meaning.specs.Stage2 as source
 use Rattle.array_meaning.specs.Assign as assigned
 use Rattle.hlfir_ops.specs.declared.op.Op.{Op}
-use Rattle.hlfir_meaning.specs.Environments.{Value, scalar, of_variables, OpRegion, Yielded, result, variable_in}
+use Rattle.hlfir_meaning.specs.Environments.{scalar, of_variables, OpRegion, Yielded, result, variable_in}
 use Rattle.hlfir_meaning.specs.Selections.{array_operand, extents}
 use Rattle.hlfir_meaning.specs.Stage1.{walk}
 use Rattle.hlfir_meaning.specs.Stage2.{operands, values, targets}
 use Rattle.hlfir_meaning.specs.Assign.{Target, all_of, selected, movable, target, new_bounds}
 use Rattle.value_laws.specs.Standing.{AreIn}
+use Rattle.value_laws.specs.Regions.{IsScalarOf}
 
 abbrev pub region : ℕ → List Op → OpRegion
 region n ops = record { first = n; ops = ops }
 
 -- ---- values
-
-abbrev pub IsScalarOf : Value → Term → Type 0
-IsScalarOf v (term.Scalar z) = v ≡ scalar z
-IsScalarOf v t = Unit {0}
 
 -- what is yielded stands for the term of this expression
 pub record YieldStands (w : World) (e : Expr) (y : Yielded) (t : Term) : Type 0 where

@@ -44,13 +44,13 @@ use Rattle.yield_laws.proofs.Right.{IsRight, AreRight, op-right}
 use Rattle.kind_laws.proofs.NoFaults.{none_first, none_after, not_broken}
 use Rattle.kind_laws.proofs.Ends.{ops_in-first}
 use Rattle.kind_laws.proofs.TypesTold.{not_other, no_rank}
+use Rattle.kind_laws.proofs.ScopesMoved.{moved, knows-moved, found-moved}
 use Rattle.yield_laws.proofs.Regions.{no-regions, more-regions, region-reached}
 use Rattle.yield_laws.proofs.Usable.{IsUsable}
 use Rattle.yield_laws.proofs.Walking.{walks-scoped}
 use Rattle.yield_laws.proofs.Typed.{IsOfType, walks-typed, scalar-of}
 use Rattle.yield_laws.proofs.Yielded.{IsYielding, one-yielded, all-yielded, value-yielded, truth-yielded, integers-yielded, yielded-reached, usable-yielded}
 use Rattle.yield_laws.proofs.Headers.{AreIntegers, walks-triple, walks-triples}
-use Rattle.yield_laws.proofs.Scopes.{moved, knows-moved, found-moved}
 use Rattle.yield_laws.proofs.Holders.{region_ops, next_region, first_inside, AnyMade, IsHeld, IsStatement, Statement, statements-right, statements-reached, one-region, two-regions, three-regions, no-statement}
 
 -- ---- ops with regions that hold statements
@@ -77,14 +77,7 @@ module _ (vs : List Value) (line : ℕ) where
   where-two m mask block h b =
       let rs = region_of mask ∷ region_of block ∷ [] in
       op-right vs m what.Masked line [] None rs
-      (record {
-        other = refl;
-        yields = ap (yields_value vs) (ops_in-first mask (region_of block ∷ [])) ∙ h.yields;
-        sides = refl;
-        realloc = refl;
-        uses = refl;
-        judged = and_from _ _ h.reached (and_from _ true (block-reached b) refl);
-      })
+      (record { other = refl; yields = ap (yields_value vs) (ops_in-first mask (region_of block ∷ [])) ∙ h.yields; sides = refl; realloc = refl; uses = refl; judged = and_from _ _ h.reached (and_from _ true (block-reached b) refl) })
       (more-regions vs true mask (region_of block ∷ []) (h.right true) (more-regions vs true block [] (block-right b) (no-regions vs true)))
 
   where-three : (m : Bool) (mask block rest : List Op) → IsMask mask → IsBlock vs true block → IsBlock vs true rest → IsRight vs m (op_of what.Masked line [] None (region_of mask ∷ region_of block ∷ region_of rest ∷ []))
@@ -92,14 +85,7 @@ module _ (vs : List Value) (line : ℕ) where
   where-three m mask block rest h b c =
       let rs = region_of mask ∷ region_of block ∷ region_of rest ∷ [] in
       op-right vs m what.Masked line [] None rs
-      (record {
-        other = refl;
-        yields = ap (yields_value vs) (ops_in-first mask (region_of block ∷ region_of rest ∷ [])) ∙ h.yields;
-        sides = refl;
-        realloc = refl;
-        uses = refl;
-        judged = and_from _ _ h.reached (and_from _ _ (block-reached b) (and_from _ true (block-reached c) refl));
-      })
+      (record { other = refl; yields = ap (yields_value vs) (ops_in-first mask (region_of block ∷ region_of rest ∷ [])) ∙ h.yields; sides = refl; realloc = refl; uses = refl; judged = and_from _ _ h.reached (and_from _ _ (block-reached b) (and_from _ true (block-reached c) refl)) })
       (more-regions vs true mask (region_of block ∷ region_of rest ∷ []) (h.right true)
       (more-regions vs true block (region_of rest ∷ []) (block-right b) (more-regions vs true rest [] (block-right c) (no-regions vs true))))
 
@@ -107,28 +93,14 @@ module _ (vs : List Value) (line : ℕ) where
   unfolding yields_of sides_of realloc_of
   else-one block b =
       op-right vs true what.Elsewhere line [] None (region_of block ∷ [])
-      (record {
-        other = refl;
-        yields = refl;
-        sides = refl;
-        realloc = refl;
-        uses = refl;
-        judged = and_from _ true (block-reached b) refl;
-      })
+      (record { other = refl; yields = refl; sides = refl; realloc = refl; uses = refl; judged = and_from _ true (block-reached b) refl })
       (more-regions vs true block [] (block-right b) (no-regions vs true))
 
   else-two : (mask block : List Op) → IsMask mask → IsBlock vs true block → IsRight vs true (op_of what.Elsewhere line [] None (region_of mask ∷ region_of block ∷ []))
   unfolding yields_of sides_of realloc_of
   else-two mask block h b =
       op-right vs true what.Elsewhere line [] None (region_of mask ∷ region_of block ∷ [])
-      (record {
-        other = refl;
-        yields = ap (yields_value vs) (ops_in-first mask (region_of block ∷ [])) ∙ h.yields;
-        sides = refl;
-        realloc = refl;
-        uses = refl;
-        judged = and_from _ _ h.reached (and_from _ true (block-reached b) refl);
-      })
+      (record { other = refl; yields = ap (yields_value vs) (ops_in-first mask (region_of block ∷ [])) ∙ h.yields; sides = refl; realloc = refl; uses = refl; judged = and_from _ _ h.reached (and_from _ true (block-reached b) refl) })
       (more-regions vs true mask (region_of block ∷ []) (h.right true) (more-regions vs true block [] (block-right b) (no-regions vs true)))
 
   forall-right : (m : Bool) (names : List Name) (header body : List Op) (made : List ValueId) → IsYielding vs header made → AreIntegers vs (length names * 3) made → nat_lt 0 (length names) ≡ true → IsBlock vs true body →
@@ -156,42 +128,21 @@ module _ (vs : List Value) (line : ℕ) where
   unfolding yields_of sides_of realloc_of
   loop-right m v header body made var y h b =
       op-right vs m what.DoLoop line (v ∷ []) None (region_of header ∷ region_of body ∷ [])
-      (record {
-        other = refl;
-        yields = ap (yields_triplet vs) (ops_in-first header (region_of body ∷ [])) ∙ and_from _ _ (integers-yielded y h.integers) (ap (λ l. length l == 3) y.parts ∙ ap (λ k. k == 3) h.many);
-        sides = refl;
-        realloc = refl;
-        uses = and_from _ true (ap not var) refl;
-        judged = and_from _ _ (region-reached vs header (yielded-reached y h.reached)) (and_from _ true (block-reached b) refl);
-      })
+      (record { other = refl; yields = ap (yields_triplet vs) (ops_in-first header (region_of body ∷ [])) ∙ and_from _ _ (integers-yielded y h.integers) (ap (λ l. length l == 3) y.parts ∙ ap (λ k. k == 3) h.many); sides = refl; realloc = refl; uses = and_from _ true (ap not var) refl; judged = and_from _ _ (region-reached vs header (yielded-reached y h.reached)) (and_from _ true (block-reached b) refl) })
       (more-regions vs m header (region_of body ∷ []) (y.right m) (more-regions vs m body [] (block-right b) (no-regions vs m)))
 
   shared-right : (m : Bool) (body : List Op) → IsBlock vs m body → IsRight vs m (op_of what.Workshare line [] None (region_of body ∷ []))
   unfolding yields_of sides_of realloc_of
   shared-right m body b =
       op-right vs m what.Workshare line [] None (region_of body ∷ [])
-      (record {
-        other = refl;
-        yields = refl;
-        sides = refl;
-        realloc = refl;
-        uses = refl;
-        judged = and_from _ true (block-reached b) refl;
-      })
+      (record { other = refl; yields = refl; sides = refl; realloc = refl; uses = refl; judged = and_from _ true (block-reached b) refl })
       (more-regions vs m body [] (block-right b) (no-regions vs m))
 
   test-right : (m : Bool) (ops : List Op) (x : Operand) → IsYielding vs ops (x.value ∷ []) → IsUsable vs x → is_scalar I1 (Some x.kind) ≡ true → IsRight vs m (op_of what.ForallMask line [] None (region_of ops ∷ []))
   unfolding yields_of sides_of realloc_of
   test-right m ops x y u truth =
       op-right vs m what.ForallMask line [] None (region_of ops ∷ [])
-      (record {
-        other = refl;
-        yields = ap (yields_truth vs) (ops_in-first ops []) ∙ truth-yielded y u.found truth;
-        sides = refl;
-        realloc = refl;
-        uses = refl;
-        judged = and_from _ true (region-reached vs ops (usable-yielded y u)) refl;
-      })
+      (record { other = refl; yields = ap (yields_truth vs) (ops_in-first ops []) ∙ truth-yielded y u.found truth; sides = refl; realloc = refl; uses = refl; judged = and_from _ true (region-reached vs ops (usable-yielded y u)) refl })
       (more-regions vs m ops [] (y.right m) (no-regions vs m))
 
 -- ---- constructs, by their blocks

@@ -20,18 +20,11 @@ use Rattle.hlfir_ops.specs.RulesPlaces.{Around, Place, Site, own_defined, sites_
 use Rattle.hlfir_ops.specs.RulesStatements.{is_declare, declares, is_named, declares_name, declares_first, may_take_allocatable, no_allocatable, yields_no_allocatable, regions_judged}
 use Rattle.hlfir_ops.specs.Rules.{yields_of, sides_of, realloc_of, declares_fit}
 use Rattle.lower_assign.specs.Known.{declares_variable, if_variable, variable_decls, variable, numbered}
-use Rattle.lower_values.specs.Lowerings.{done, ◌>>=◌, giving}
-use Rattle.lower_constructs.specs.Modules.{declaration}
 use Rattle.kind_laws.proofs.Sited.{op_sites-parts}
 use Rattle.kind_laws.proofs.NoFaults.{none_first, none_after, not_broken, left_false, right_false}
 use Rattle.yield_laws.proofs.Right.{Keeps}
-use Rattle.kind_laws.proofs.DeclaresFound.{declare_op, GivesDeclares}
+use Rattle.kind_laws.proofs.DeclaresFound.{declare_op}
 use Rattle.kind_laws.proofs.ConstantsKnown.{declared_more}
-
--- what the declarations of a source become
-pub gives_declares : GivesDeclares declaration
-unfolding declaration giving done ◌>>=◌
-gives_declares k v s n = refl
 
 -- ---- each keeps the rules
 

@@ -28,7 +28,7 @@ use Rattle.kind_laws.proofs.DeclaresFound.{declare_op, declares-ops, outermost_f
 use Rattle.kind_laws.proofs.Held.{held-whole}
 use Rattle.yield_laws.proofs.Holders.{statements-right}
 use Rattle.yield_laws.proofs.Statements.{walks-statements}
-use Rattle.yield_laws.proofs.Declares.{gives_declares, declares-kept}
+use Rattle.yield_laws.proofs.Declares.{declares-kept}
 
 module _ (t : Tree) (accepted : IsAccepted t) where
   abbrev scope : Scope
@@ -47,10 +47,10 @@ module _ (t : Tree) (accepted : IsAccepted t) where
   held = held-whole (declares ++ statements)
 
   declares_are : declares ≡ map (declare_op scope.line) (numbered 0 (constants_after [] t.decls) (variable_decls t.decls))
-  declares_are = declares-ops declaration gives_declares (names_of t).variables 0 0 scope
+  declares_are = declares-ops (names_of t).variables 0 0 scope
 
   found : ScopeIsFound values scope
-  found = outermost_found declaration gives_declares values t (holds_first values _ declares statements held)
+  found = outermost_found values t (holds_first values _ declares statements held)
 
   declare_sites : All (Keeps values) (sites_of outermost [] 0 [] declares)
   declare_sites = subst (λ ops. All (Keeps values) (sites_of outermost [] 0 [] ops)) (sym declares_are)

@@ -35,7 +35,7 @@ use Rattle.yield_laws.proofs.Usable.{IsUsable, IsValue, is_solid, usable-reached
 use Rattle.yield_laws.proofs.Walking.{Walks, walks-done, walks-value, walks-if}
 use Rattle.yield_laws.proofs.Elements.{IsBody, body, operation_value, operation_plain, arranged-reached}
 
-solid_rank : (rank : ℕ) → (rank == 0) ≡ false → nat_lt 0 rank ≡ true
+pub solid_rank : (rank : ℕ) → (rank == 0) ≡ false → nat_lt 0 rank ≡ true
 solid_rank rank h = grind (arith, h)
 
 module _ (vs : List Value) (s : Scope) (n : ℕ) where

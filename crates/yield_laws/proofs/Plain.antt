@@ -35,6 +35,7 @@ use Rattle.yield_laws.proofs.Right.{IsRight, op-right}
 use Rattle.kind_laws.proofs.NoFaults.{none_first, none_after, not_broken, left_false, right_false}
 use Rattle.kind_laws.proofs.Ends.{ops_in-first}
 use Rattle.kind_laws.proofs.Faultless.{each_faultless}
+use Rattle.kind_laws.proofs.ScopesMoved.{knows-moved, found-moved}
 use Rattle.yield_laws.proofs.Regions.{no-regions, more-regions, region-reached}
 use Rattle.yield_laws.proofs.Usable.{IsValue, plain-right}
 use Rattle.yield_laws.proofs.Walking.{Walks, walks-scoped}
@@ -43,7 +44,7 @@ use Rattle.yield_laws.proofs.Yielded.{IsYielding, one-yielded, all-yielded, one-
 use Rattle.yield_laws.proofs.Lefts.{IsLeft, walks-left}
 use Rattle.yield_laws.proofs.Headers.{AreIntegers, walks-bounds}
 use Rattle.yield_laws.proofs.Items.{IsNoVector, item-no-vector}
-use Rattle.yield_laws.proofs.Scopes.{knows-moved, found-moved, IsWithin}
+use Rattle.yield_laws.proofs.Scopes.{IsWithin}
 use Rattle.yield_laws.proofs.Assignments.{bare_whole, no_realloc, sides_fit, assign-right}
 use Rattle.yield_laws.proofs.Holders.{region_ops, next_region, first_inside, AnyMade, IsStatement, Statement, no-region, one-region, two-regions, in-turn}
 

@@ -28,11 +28,12 @@ use Rattle.kind_laws.specs.Standing.{Knows}
 use Rattle.kind_laws.specs.Found.{ScopeIsFound}
 use Rattle.kind_laws.proofs.ScopesKnown.{forall_known, loop_known}
 use Rattle.kind_laws.proofs.NoFaults.{none_first, none_after, impossible}
-use Rattle.yield_laws.proofs.Scopes.{moved, knows-moved, found-moved, IsWithin}
+use Rattle.yield_laws.proofs.Scopes.{IsWithin}
 use Rattle.yield_laws.proofs.Holders.{Statement, after, no-statement}
 use Rattle.yield_laws.proofs.Plain.{walks-assignment, walks-allocations, walks-deallocations, walks-readings}
 use Rattle.kind_laws.proofs.Grammar.{no_else, where_parts, forall_parts, loop_parts, shared_parts, allocated_parts, read_parts}
-use Rattle.kind_laws.proofs.Faultless.{where_faultless, else_faultless, forall_faultless, loop_faultless, shared_faultless, allocate_faultless, read_faultless}
+use Rattle.kind_laws.proofs.Faultless.{where_faultless, else_faultless, forall_faultless, loop_faultless, shared_faultless, allocate_faultless, read_faultless, IsOuter}
+use Rattle.kind_laws.proofs.ScopesMoved.{moved, knows-moved, found-moved}
 use Rattle.yield_laws.proofs.Constructs.{walks-where, walks-shared, walks-elsewhere, walks-loop, walks-test, walks-forall}
 
 -- ---- places of blocks
@@ -124,10 +125,6 @@ module _ (vs : List Value) where
         (walks-elsewhere vs t own s knows scope n first None tt refl (statements block)
         (λ q i j. walks-block in_where room t (else_control t own line first None) block h.0 right.in_block (moved s.masked own s) (knows-moved t s s.masked own knows) (found-moved vs s s.masked own scope) true
         (else_within t own line first None (moved s.masked own s) is) j)) (λ i. walks-elses 0 t line first rest (no_else rest h.1) right.in_rest s knows scope is i)
-
-  -- the statements of a source
-  abbrev pub IsOuter : Stmt → Type 0
-  IsOuter s = IsBody anywhere 64 s.line s.body
 
   pub walks-statements : (t : List Row) (w : Within) (ss : List Stmt) → All IsOuter ss → stmts_faults t w ss ≡ [] → (s : Scope) → Knows t s → ScopeIsFound vs s → (m : Bool) → IsWithin w s m → (n : ℕ) → Statement vs m s n (statement_list ss)
   walks-statements t w [] h f s knows scope m in_ n = no-statement vs m s n

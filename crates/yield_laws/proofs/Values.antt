@@ -42,13 +42,10 @@ use Rattle.kind_laws.specs.Found.{ScopeIsFound}
 use Rattle.kind_laws.proofs.NoFaults.{allowed, not_false, none_first, none_after, not_broken, left_false, right_false}
 use Rattle.yield_laws.proofs.Usable.{IsUsable, IsValue, is_solid, usable-reached, more-reached, reached-append}
 use Rattle.yield_laws.proofs.Walking.{Walks, walks-done, walks-then, walks-scoped, walks-value, walks-if}
-use Rattle.yield_laws.proofs.Operations.{walks-constant, walks-binary, walks-parentheses, walks-unary, walks-vector, walks-call}
+use Rattle.yield_laws.proofs.Operations.{walks-constant, walks-binary, walks-parentheses, walks-unary, walks-vector, walks-call, solid_rank}
 use Rattle.yield_laws.proofs.Names.{array-variable, named-rank, not_known, walks-reference, walks-loaded, walks-bound, walks-folded, walks-named}
 
 -- ---- ranks
-
-positive : (n : ℕ) → (n == 0) ≡ false → nat_lt 0 n ≡ true
-positive n h = grind (arith, h)
 
 over : (d rank : ℕ) → (nat_eq d 0 || nat_lt rank d) ≡ false → nat_lt 0 rank ≡ true
 over d rank h = grind (arith, left_false (nat_eq d 0) (nat_lt rank d) h, right_false (nat_eq d 0) (nat_lt rank d) h)
@@ -66,7 +63,7 @@ inquired : (x : Name) (es : List Expr) (o : Option Typed) → is_outside_type o 
 inquired x es o f ty is = by es (ap (λ u. is_outside_type u (Named x ∷ es)) (sym is) ∙ f)
   where
     by : (es : List Expr) → is_outside ty.rank (Named x ∷ es) ≡ false → nat_lt 0 ty.rank ≡ true
-    by [] g = positive ty.rank g
+    by [] g = solid_rank ty.rank g
     by (Number d ∷ more) g = over d ty.rank g
     by (e ∷ more) g = absurd (true≢false g)
 
@@ -85,7 +82,7 @@ part_solid rank e = at (rank == 0) refl
   where
     at : (b : Bool) → (rank == 0) ≡ b → is_solid (if b then Place e else Section e rank) ≡ true
     at true is = refl
-    at false is = positive rank is
+    at false is = solid_rank rank is
 
 module _ (vs : List Value) (s : Scope) (n : ℕ) where
   pub walks-designated : (r : Operand) (ss : List Subscript) → IsUsable vs r → All (IsReachedBy vs) ss → Walks vs (IsValue vs) s n (designated r ss) (IsUsable vs)

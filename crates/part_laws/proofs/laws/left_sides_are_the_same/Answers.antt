@@ -3,11 +3,5 @@ use Rattle.part_laws.proofs.Selected.{same-targets}
 use Rattle.part_laws.proofs.Targets.{whole-targets}
 use Rattle.part_laws.proofs.laws.left_sides_are_the_same.Goals as goal
 
-pub returns-clause-shapes : goal.returns-clause-shapes
-returns-clause-shapes c = part-shapes
-
-pub returns-clause-targets : goal.returns-clause-targets
-returns-clause-targets c = same-targets
-
-pub returns-clause-whole : goal.returns-clause-whole
-returns-clause-whole c = whole-targets
+pub returns : goal.returns
+returns c = record { shapes = part-shapes; targets = same-targets; whole = whole-targets }

@@ -2,14 +2,5 @@ use Rattle.std.specs.Prelude.{false}
 use Rattle.value_laws.proofs.Calls.{abs-if, mod-if, modulo-if, merge-if}
 use Rattle.value_laws.proofs.laws.calls_stand.Goals as goal
 
-pub returns-clause-abs : goal.returns-clause-abs
-returns-clause-abs c vectors base low s n env xs ts g long free h = abs-if vectors base low s n env xs ts g long false free h
-
-pub returns-clause-modulo : goal.returns-clause-modulo
-returns-clause-modulo c vectors base low s n env xs ts g long free h = modulo-if vectors base low s n env xs ts g long false free h
-
-pub returns-clause-remainder : goal.returns-clause-remainder
-returns-clause-remainder c vectors base low s n env xs ts g long free h = mod-if vectors base low s n env xs ts g long false free h
-
-pub returns-clause-merge : goal.returns-clause-merge
-returns-clause-merge c vectors base low s n env xs ts g long free h = merge-if vectors base low s n env xs ts g long false free h
+pub returns : goal.returns
+returns c = record { abs = abs-if false; modulo = modulo-if false; remainder = mod-if false; merge = merge-if false }
