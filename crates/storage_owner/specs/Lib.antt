@@ -1,0 +1,5 @@
+pub mod Ranges
+pub mod Groups
+pub mod Layouts
+pub mod Standing
+pub mod Laws
