@@ -1,0 +1,10 @@
+pub mod AssignmentsExamples
+pub mod CombinationsExamples
+pub mod Example
+pub mod Fits
+pub mod Known
+pub mod MasksExamples
+pub mod Outlines
+pub mod PhasesText
+pub mod ReductionsExamples
+pub mod Stages
