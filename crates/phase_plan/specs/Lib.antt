@@ -1,8 +1,10 @@
 pub mod AssignmentsExamples
+pub mod Begun
 pub mod CombinationsExamples
 pub mod Example
 pub mod Fits
 pub mod Known
+pub mod Laws
 pub mod MasksExamples
 pub mod Outlines
 pub mod PhasesText

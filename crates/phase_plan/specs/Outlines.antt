@@ -18,8 +18,8 @@ use Rattle.hlfir_ops.specs.RulesValues.{is_allocatable}
 use Rattle.hlfir_ops.specs.RulesForms.{rank_of_kind}
 use Rattle.hlfir_ops.specs.RulesRegions.{parts_in}
 use Rattle.hlfir_ops.specs.RulesStatements.{assigns}
-use Rattle.hlfir_ops.specs.Sorts.{is_assign, shares}
-use Rattle.hlfir_ops.specs.RulesPlaces.{Around, Site, masks, module_sites}
+use Rattle.hlfir_ops.specs.Sorts.{shares}
+use Rattle.hlfir_ops.specs.RulesPlaces.{Site, module_sites}
 use Rattle.alias_test.specs.Givers.{kind_given}
 use Rattle.alias_test.specs.Normal.{constant_at, constant_triplet, designator_at}
 use Rattle.assign_schedule.specs.declared.entry.Planned.{Planned}
@@ -30,6 +30,7 @@ use Rattle.assign_schedule.specs.Saved.{in_forall}
 use Rattle.plan_text.specs.ScheduleText.{assigned_name}
 use Rattle.phase_ops.specs.declared.phase.Label.{Label}
 use Rattle.phase_ops.specs.declared.phase.Label.TheVariants as label
+use Rattle.phase_plan.specs.Begun.{Begun, begins}
 use Rattle.phase_plan.specs.Known.{Known, known_of, one_shape}
 use Rattle.phase_plan.specs.Stages.{Entry, item, total, whole, is_mask, entries_of, stage_values}
 
@@ -290,32 +291,22 @@ abbrev pub steps_phases : Known → Schedule → Past → List (List Item) → L
 steps_phases k s past [] = []
 steps_phases k s past (is ∷ more) = step_phases k s (past_before past is) is ++ steps_phases k s (past_after k s (past_before past is) is) more
 
--- ---- groups: the regions, and the outermost statements outside them
+-- ---- groups
 
-abbrev pub begins_group_by : What → Around → Bool
-begins_group_by w a = shares w || (is_assign w || masks w) && not a.masked && not a.shared
+-- the steps of an op
+abbrev pub steps_begun : Begun → List (List Item)
+steps_begun b = steps_of (op_items outermost b.place b.number b.op)
 
-abbrev pub begins_group : Site → Bool
-begins_group site = begins_group_by (out-Op site.op).what site.place.around
-
--- the steps of the op of this place
-abbrev pub steps_at : ℕ → Site → List (List Item)
-steps_at place site = steps_of (op_items outermost place site.place.number site.op)
-
-abbrev pub group_at : Known → Schedule → ℕ → Site → Group
-group_at k s place site = record {
-  line = (out-Op site.op).line;
-  shared = shares (out-Op site.op).what;
-  phases = steps_phases k s (opened []) (steps_at place site);
+abbrev pub group_begun : Known → Schedule → Begun → Group
+group_begun k s b = record {
+  line = (out-Op b.op).line;
+  shared = shares (out-Op b.op).what;
+  phases = steps_phases k s (opened []) (steps_begun b);
 }
-
-abbrev pub groups_from : Known → Schedule → ℕ → List Site → List Group
-groups_from k s place [] = []
-groups_from k s place (site ∷ more) = (if begins_group site then group_at k s place site ∷ [] else []) ++ groups_from k s (suc place) more
 
 -- the groups of a module with this schedule
 abbrev pub outlines : Module → Schedule → List Group
-outlines m s = groups_from (known_of m) s 0 (module_sites m)
+outlines m s = map (group_begun (known_of m) s) (begins m)
 
 -- ---- how many temporaries a group has
 

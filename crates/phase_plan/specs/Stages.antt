@@ -1,5 +1,5 @@
 -- Stage 1 of a step: the list of what is evaluated once, before any element.
-use Rattle.std.specs.Prelude.{ℕ, max, ◌+◌, Bool, true, false, not, ◌||◌, if◌then◌else◌, List, [], ◌∷◌, ◌++◌, Option, Some, None, ℤ, pos, slice_get, slice_index_or}
+use Rattle.std.specs.Prelude.{ℕ, max, ◌+◌, Bool, false, not, ◌||◌, if◌then◌else◌, List, [], ◌∷◌, ◌++◌, Option, Some, None, ℤ, pos, slice_get, slice_index_or}
 use Rattle.std.specs.Option.{is_some}
 use Rattle.std.specs.List.{flat_map}
 use Rattle.ws_base.specs.Numbers.{int_eq}

@@ -3,7 +3,9 @@
 #![tactic(auto)]
 
 mod examples;
+mod laws;
 
 pub use examples::{
     assignments_examples, combinations_examples, masks_examples, reductions_examples,
 };
+pub use laws::groups_law;
