@@ -19,6 +19,7 @@ use Rattle.ws_types.specs.Kinds.{when}
 use Rattle.ws_types.specs.Names.{standing_of}
 use Rattle.ws_types.specs.Operations.{is_inquiry, is_allocated_word, inquiry_faults}
 use Rattle.ws_types.specs.Expressions.{listed, first_standing}
+use Rattle.ws_sema.proofs.NoFaults.{impossible}
 use Rattle.array_meaning.specs.declared.world.World.{World}
 use Rattle.array_meaning.specs.Forall as source
 use Rattle.array_meaning.specs.Forall.{Combination}
@@ -30,7 +31,6 @@ use Rattle.lower_values.specs.Scopes.{Scope}
 use Rattle.lower_values.specs.Lowerings.{scoped, ◌>>=◌ as ◌then◌}
 use Rattle.lower_values.specs.References.{variable_of, or_nothing, declare_of, boxed, reference, first_name, dimension_in, bound_word, bound_or_size, is_allocated, inquiry_of, inquiry_or_nothing, inquiry}
 use Rattle.kind_laws.specs.Standing.{Knows}
-use Rattle.kind_laws.proofs.NoFaults.{impossible}
 use Rattle.value_laws.proofs.Walking.{does-then, does-scoped}
 use Rattle.world_laws.proofs.Fitting.{DeclaredAt, state_fits, is_below, refers}
 use Rattle.forall_laws.specs.Walks.{DoesOver, IsColumn, IsReference}

@@ -12,6 +12,7 @@ use Rattle.ws_tree.specs.Grammatical as grammar
 use Rattle.ws_types.specs.declared.types.Row.{Row}
 use Rattle.ws_sema.specs.declared.within.Within.TheVariants as within
 use Rattle.ws_sema.specs.Statements.{block_faults}
+use Rattle.ws_sema.proofs.NoFaults.{none_first, none_after, impossible}
 use Rattle.array_meaning.specs.declared.world.World.{World}
 use Rattle.array_meaning.specs.Forall as source
 use Rattle.array_meaning.specs.Forall.{Combination}
@@ -24,7 +25,6 @@ use Rattle.lower_values.specs.Scopes.{Scope}
 use Rattle.lower_values.specs.Lowerings.{done, ◌>>=◌ as ◌then◌, scoped, statement_of}
 use Rattle.lower_assign.specs.Statements.{assignment}
 use Rattle.lower_constructs.specs.Modules.{statements}
-use Rattle.kind_laws.proofs.NoFaults.{none_first, none_after, impossible}
 use Rattle.value_laws.proofs.Ops.{parts-op_of}
 use Rattle.world_laws.specs.Worlds.{FitsNames}
 use Rattle.world_laws.specs.Meanings.{LeavesWorld}

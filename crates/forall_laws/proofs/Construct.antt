@@ -22,6 +22,7 @@ use Rattle.ws_types.specs.declared.types.Row.{Row}
 use Rattle.ws_types.specs.Tables.{barred, inner}
 use Rattle.ws_sema.specs.declared.within.Within.TheVariants as within
 use Rattle.ws_sema.specs.Statements.{header_faults, forall_mask_faults, block_faults}
+use Rattle.ws_sema.proofs.Grammar.{StandsIn, forall_parts}
 use Rattle.array_meaning.specs.declared.world.World.{World}
 use Rattle.array_meaning.specs.Forall as source
 use Rattle.array_meaning.specs.Forall.{Combination, combination}
@@ -44,7 +45,6 @@ use Rattle.lower_constructs.specs.Modules.{statement, statements, triples, foral
 use Rattle.kind_laws.specs.Standing.{Knows}
 use Rattle.kind_laws.specs.Laws.{index_names}
 use Rattle.kind_laws.proofs.ScopesKnown.{header_known, forall_known}
-use Rattle.kind_laws.proofs.Grammar.{StandsIn, forall_parts}
 use Rattle.kind_laws.proofs.Faultless.{forall_faultless}
 use Rattle.kind_laws.proofs.Ends.{ops_in-second}
 use Rattle.value_laws.proofs.Ops.{parts-op_of, ops_in-first}

@@ -21,6 +21,7 @@ use Rattle.ws_types.specs.Names.{standing_of}
 use Rattle.ws_types.specs.Operations.{takes, is_inquiry, no_subscripts, with_subscript, no_arguments}
 use Rattle.ws_types.specs.Expressions.{listed, how_many, named_type, named_faults, typed, faults, arguments, all_faults, subs_faults, called_type, called_faults}
 use Rattle.ws_types.specs.Expressions as types
+use Rattle.ws_sema.proofs.NoFaults.{none_first, none_after}
 use Rattle.array_meaning.specs.declared.world.World.{World}
 use Rattle.array_meaning.specs.Forall as source
 use Rattle.array_meaning.specs.Stage1 as once
@@ -39,7 +40,6 @@ use Rattle.lower_values.specs.Operations.{binary_of, binary_operation, in_parent
 use Rattle.lower_values.specs.References.{reference, loaded, named, subscript_of, designated, inquiry}
 use Rattle.lower_values.specs.Values.{part_of, value, values, nested, subscripts, subscript}
 use Rattle.kind_laws.specs.Standing.{Knows}
-use Rattle.kind_laws.proofs.NoFaults.{none_first, none_after}
 use Rattle.kind_laws.proofs.TypeFacts.{no_type, unary_operand, binary_result, part_result}
 use Rattle.kind_laws.proofs.TypesKnown.{name_known}
 use Rattle.kind_laws.proofs.TypedExpressions.{type_known}

@@ -17,6 +17,7 @@ use Rattle.ws_types.specs.Operations.{scalar_faults}
 use Rattle.ws_types.specs.Expressions.{typed, number_faults}
 use Rattle.ws_types.specs.Lists.{given_faults}
 use Rattle.ws_sema.specs.Statements.{scalar_expr_faults, header_faults}
+use Rattle.ws_sema.proofs.NoFaults.{none_first, none_after, not_broken}
 use Rattle.array_meaning.specs.declared.world.World.{World}
 use Rattle.array_meaning.specs.Stage1 as once
 use Rattle.array_meaning.specs.Forall as source
@@ -35,7 +36,6 @@ use Rattle.lower_values.specs.Lowerings.{Lowered, done, ◌>>=◌ as ◌then◌}
 use Rattle.lower_values.specs.Values.{value}
 use Rattle.lower_values.specs.Lists.{values}
 use Rattle.lower_constructs.specs.Modules.{triple, triples}
-use Rattle.kind_laws.proofs.NoFaults.{none_first, none_after, not_broken}
 use Rattle.kind_laws.proofs.TypedExpressions.{type_known}
 use Rattle.kind_laws.proofs.Sides.{sides_are_expressions}
 use Rattle.kind_laws.proofs.Ends.{last_of-push}

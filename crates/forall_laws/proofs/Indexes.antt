@@ -14,6 +14,7 @@ use Rattle.ws_types.specs.Names.{standing_of}
 use Rattle.ws_types.specs.Constants as known
 use Rattle.ws_types.specs.Tables.{inner}
 use Rattle.ws_sema.specs.Statements.{is_listed, header_faults}
+use Rattle.ws_sema.proofs.NoFaults.{none_first, none_after, not_broken}
 use Rattle.array_meaning.specs.Stage1.{constant_of}
 use Rattle.array_meaning.specs.Forall.{Combination, by_name}
 use Rattle.hlfir_ops.specs.declared.op.ValueId.{ValueId}
@@ -23,7 +24,6 @@ use Rattle.lower_values.specs.declared.names.Names.{Names}
 use Rattle.lower_values.specs.Scopes.{Scope, Indexed, index_of}
 use Rattle.kind_laws.specs.Standing.{NameIsKnown}
 use Rattle.kind_laws.specs.Laws.{index_names}
-use Rattle.kind_laws.proofs.NoFaults.{none_first, none_after, not_broken}
 use Rattle.kind_laws.proofs.ScopesKnown.{with_names, index_other}
 use Rattle.value_laws.proofs.Walking.{with_value-here, with_value-other}
 use Rattle.forall_laws.specs.Combined.{IndexStands}

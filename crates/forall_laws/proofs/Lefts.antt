@@ -12,6 +12,7 @@ use Rattle.ws_types.specs.Names.{standing_of}
 use Rattle.ws_types.specs.Operations.{no_subscripts, part_faults, part_type}
 use Rattle.ws_types.specs.Expressions.{listed, how_many, named_type, named_faults, typed, faults, arguments, all_faults, subs_faults, called_type, called_faults}
 use Rattle.ws_types.specs.Expressions as types
+use Rattle.ws_sema.proofs.NoFaults.{none_first, none_after}
 use Rattle.array_meaning.specs.declared.world.World.{World}
 use Rattle.array_meaning.specs.Forall as source
 use Rattle.array_meaning.specs.Forall.{Combination}
@@ -20,7 +21,6 @@ use Rattle.hlfir_meaning.specs.Places.{place_in}
 use Rattle.lower_values.specs.Scopes.{Scope}
 use Rattle.lower_values.specs.Values.{part_of, subscripts}
 use Rattle.kind_laws.specs.Standing.{Knows}
-use Rattle.kind_laws.proofs.NoFaults.{none_first, none_after}
 use Rattle.kind_laws.proofs.TypeFacts.{part_result}
 use Rattle.kind_laws.proofs.TypesKnown.{name_known}
 use Rattle.world_laws.proofs.Fitting.{state_fits}

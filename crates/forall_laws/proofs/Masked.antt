@@ -13,6 +13,7 @@ use Rattle.ws_tree.specs.Grammatical as grammar
 use Rattle.ws_types.specs.declared.types.Row.{Row}
 use Rattle.ws_sema.specs.declared.within.Within.TheVariants as within
 use Rattle.ws_sema.specs.Statements.{block_faults, scalar_mask_faults, forall_mask_faults}
+use Rattle.ws_sema.proofs.NoFaults.{none_first, none_after, not_broken}
 use Rattle.array_meaning.specs.declared.world.World.{World}
 use Rattle.array_meaning.specs.Forall as source
 use Rattle.array_meaning.specs.Forall.{Combination}
@@ -32,7 +33,6 @@ use Rattle.lower_values.specs.Lowerings.{done, ◌>>=◌ as ◌then◌, ◌>>◌
 use Rattle.lower_values.specs.Values.{value}
 use Rattle.lower_assign.specs.Statements.{yielded}
 use Rattle.lower_constructs.specs.Modules.{statements, forall_mask}
-use Rattle.kind_laws.proofs.NoFaults.{none_first, none_after, not_broken}
 use Rattle.kind_laws.proofs.ScopesKnown.{inside_known}
 use Rattle.value_laws.proofs.Ops.{parts-op_of, ops_in-first}
 use Rattle.world_laws.specs.Worlds.{FitsNames}

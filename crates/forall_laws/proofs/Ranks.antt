@@ -15,11 +15,11 @@ use Rattle.ws_types.specs.declared.types.Standing.TheVariants.{Declared, Active,
 use Rattle.ws_types.specs.Names.{standing_of, name_type, name_faults, entry_type, is_no_allocatable}
 use Rattle.ws_types.specs.Operations.{part_faults, is_allocated_word, is_outside, is_outside_type, inquiry_faults}
 use Rattle.ws_types.specs.Expressions.{how_many, named_type, named_faults}
+use Rattle.ws_sema.proofs.NoFaults.{none_first, none_after, not_broken, impossible}
 use Rattle.lower_values.specs.declared.operand.Operand.{Operand}
 use Rattle.lower_values.specs.Scopes.{Scope}
 use Rattle.lower_values.specs.References.{variable_of}
 use Rattle.kind_laws.specs.Standing.{EntryIsKnown, NameIsKnown, Knows}
-use Rattle.kind_laws.proofs.NoFaults.{none_first, none_after, not_broken, impossible}
 use Rattle.kind_laws.proofs.TypeFacts.{no_type, same_type}
 use Rattle.kind_laws.proofs.TypesKnown.{name_known}
 use Rattle.kind_laws.proofs.FormsMade.{part_rank}

@@ -15,6 +15,7 @@ use Rattle.ws_types.specs.Operations.{is_above}
 use Rattle.ws_types.specs.Expressions.{typed, faults, wide_faults}
 use Rattle.ws_sema.specs.declared.within.Within.TheVariants as within
 use Rattle.ws_sema.specs.Statements.{has_no_subscripts, left_faults, left_type, sides_faults, assign_faults}
+use Rattle.ws_sema.proofs.NoFaults.{none_first, none_after, not_broken, impossible, left_false, right_false}
 use Rattle.array_meaning.specs.declared.world.World.{World}
 use Rattle.array_meaning.specs.Forall as source
 use Rattle.array_meaning.specs.Forall.{Combination}
@@ -28,7 +29,6 @@ use Rattle.lower_values.specs.Scopes as scopes
 use Rattle.lower_values.specs.Values.{value}
 use Rattle.lower_assign.specs.Statements.{yielded, left, left_of}
 use Rattle.kind_laws.specs.Standing.{Knows}
-use Rattle.kind_laws.proofs.NoFaults.{none_first, none_after, not_broken, impossible, left_false, right_false}
 use Rattle.kind_laws.proofs.TypedExpressions.{type_known}
 use Rattle.kind_laws.proofs.Sides.{sides_are_expressions}
 use Rattle.value_laws.proofs.Walking.{does-scoped}

@@ -4,8 +4,8 @@ use Rattle.std.proofs.lemmas.Bool.{true≢false}
 use Rattle.ws_types.specs.declared.types.Typed.{Typed}
 use Rattle.ws_types.specs.declared.types.Arguments.{Arguments}
 use Rattle.ws_types.specs.Operations.{with_argument, no_arguments}
+use Rattle.ws_sema.proofs.NoFaults.{left_false, right_false, not_false}
 use Rattle.kind_laws.proofs.Arguments.{argued}
-use Rattle.kind_laws.proofs.NoFaults.{left_false, right_false, not_false}
 
 -- all are LOGICAL, or none is
 abbrev pub Each : Bool → List Typed → Type 0

@@ -18,6 +18,8 @@ use Rattle.ws_types.specs.Tables.{barred, inner}
 use Rattle.ws_sema.specs.declared.within.Within.{Within}
 use Rattle.ws_sema.specs.declared.within.Within.TheVariants as within
 use Rattle.ws_sema.specs.Statements.{is_inside, item_faults, allocation_faults, deallocation_faults, loop_faults, under, mask_rank, else_control, with_active, block_faults, body_faults, elses_faults, stmts_faults}
+use Rattle.ws_sema.proofs.NoFaults.{none_first, none_after}
+use Rattle.ws_sema.proofs.Grammar.{where_parts, forall_parts, loop_parts, shared_parts, allocated_parts, read_parts, no_else}
 use Rattle.hlfir_ops.specs.declared.what.What.{What}
 use Rattle.hlfir_ops.specs.declared.what.What.TheVariants as what
 use Rattle.hlfir_ops.specs.RulesValues.{Value, value_at, is_integer_declare}
@@ -28,9 +30,7 @@ use Rattle.lower_values.specs.Values.{value}
 use Rattle.lower_assign.specs.Statements.{yielded, all_yielded, allocation, deallocation, reading}
 use Rattle.lower_constructs.specs.Modules.{triple, triples, forall_mask, elsewhere, statement, statements, elsewheres, statement_list}
 use Rattle.kind_laws.proofs.ScopesFound.{loop_variables_are_found}
-use Rattle.kind_laws.proofs.Grammar.{where_parts, forall_parts, loop_parts, shared_parts, allocated_parts, read_parts, no_else}
 use Rattle.kind_laws.proofs.Faultless.{where_faultless, else_faultless, forall_faultless, loop_faultless, shared_faultless, allocate_faultless, deallocate_faultless, read_faultless, each_faultless, IsOuter}
-use Rattle.kind_laws.proofs.NoFaults.{none_first, none_after}
 use Rattle.form_laws.proofs.Stages.{Stage, stage-region, stage-active, stage-barred, stage-inner}
 use Rattle.form_laws.proofs.Regions.{Walks, walks-done, walks-then, walks-scoped, walks-yielded, walks-all_yielded, walks-statement, walks-in_turn}
 use Rattle.form_laws.proofs.Sides.{walks-side}

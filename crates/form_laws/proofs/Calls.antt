@@ -9,6 +9,7 @@ use Rattle.ws_tree.specs.declared.expr.Expr.{Expr}
 use Rattle.ws_types.specs.declared.types.Typed.{Typed}
 use Rattle.ws_types.specs.declared.types.Arguments.{Arguments}
 use Rattle.ws_types.specs.Operations.{differ, no_arguments, takes, is_inquiry, is_reduction, has_wrong_type, has_wrong_rank, is_other_type, call_faults}
+use Rattle.ws_sema.proofs.NoFaults.{none_first, none_after, not_broken, left_false, right_false}
 use Rattle.hlfir_ops.specs.declared.kinds.Elem.TheVariants.{I32, I1}
 use Rattle.hlfir_ops.specs.declared.kinds.ValueKind.{ValueKind}
 use Rattle.hlfir_ops.specs.declared.kinds.ValueKind.TheVariants as kind
@@ -31,7 +32,6 @@ use Rattle.form_laws.proofs.Operands.{scalar_kind, array_kind}
 use Rattle.form_laws.proofs.Typed.{IsOf, AreOf, unary-made, binary-made, select-made}
 use Rattle.form_laws.proofs.Walking.{Good, good-made}
 use Rattle.kind_laws.proofs.Arguments.{argued}
-use Rattle.kind_laws.proofs.NoFaults.{none_first, none_after, not_broken, left_false, right_false}
 use Rattle.kind_laws.proofs.TypesTold.{not_other, same_elem-same}
 use Rattle.kind_laws.proofs.ScalarRanks.{AllScalar}
 use Rattle.form_laws.proofs.Arguments.{Each, same_choice}

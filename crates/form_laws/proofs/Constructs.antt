@@ -15,6 +15,7 @@ use Rattle.ws_types.specs.Expressions.{faults}
 use Rattle.ws_types.specs.Lists.{given_faults}
 use Rattle.ws_types.specs.Tables.{inner}
 use Rattle.ws_sema.specs.Statements.{header_faults, forall_mask_faults, deallocations_faults, deallocation_faults}
+use Rattle.ws_sema.proofs.NoFaults.{none_first, none_after}
 use Rattle.hlfir_ops.specs.declared.what.What.TheVariants as what
 use Rattle.hlfir_ops.specs.declared.op.Region.{out-roll-Region}
 use Rattle.hlfir_ops.specs.Numbers.{numbers_of}
@@ -28,7 +29,6 @@ use Rattle.lower_constructs.specs.Modules.{triple, triples, forall_mask, third, 
 use Rattle.form_laws.proofs.Stages.{Stage, stage-region}
 use Rattle.form_laws.proofs.Regions.{Walks, walks-done, walks-then, walks-scoped, walks-yielded, RegionWalks, walks-statement}
 use Rattle.form_laws.proofs.Sides.{walks-side, walks-stride}
-use Rattle.kind_laws.proofs.NoFaults.{none_first, none_after}
 
 -- ---- lists of items
 

@@ -8,6 +8,7 @@ use Rattle.ws_tree.specs.declared.stmt.Bound.{Bound}
 use Rattle.ws_tree.specs.declared.stmt.Decl.{Decl}
 use Rattle.ws_types.specs.declared.constant.Constant.{Constant}
 use Rattle.ws_sema.specs.Declarations.{is_some, is_empty, is_left_out, shape_faults, decls_faults, with_constant}
+use Rattle.ws_sema.proofs.NoFaults.{none_first, none_after, not_broken}
 use Rattle.hlfir_ops.specs.declared.kinds.Elem.{Elem}
 use Rattle.hlfir_ops.specs.declared.what.What.TheVariants as what
 use Rattle.hlfir_ops.specs.RulesValues.{Value}
@@ -18,7 +19,6 @@ use Rattle.lower_values.specs.Lowerings.{done, in_turn, giving}
 use Rattle.lower_assign.specs.Known.{elem, bound_dim, declared_shape, variable_kind, declares_variable, if_variable, variable_decls, numbered}
 use Rattle.lower_constructs.specs.Modules.{declaration}
 use Rattle.form_laws.proofs.Passing.{fit-op}
-use Rattle.kind_laws.proofs.NoFaults.{none_first, none_after, not_broken}
 use Rattle.form_laws.proofs.Regions.{Walks, walks-then, walks-done, walks-in_turn}
 
 -- ---- kinds of variables

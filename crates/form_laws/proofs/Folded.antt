@@ -13,6 +13,7 @@ use Rattle.ws_types.specs.declared.types.Arguments.{Arguments}
 use Rattle.ws_types.specs.Constants.{constancy}
 use Rattle.ws_types.specs.Kinds.{when}
 use Rattle.ws_types.specs.Operations.{differ, is_inquiry, has_wrong_type, has_wrong_rank, with_argument}
+use Rattle.ws_sema.proofs.NoFaults.{impossible, left_false}
 use Rattle.hlfir_ops.specs.declared.kinds.Elem.TheVariants.{I32}
 use Rattle.hlfir_ops.specs.declared.what.ValueBinary.{ValueBinary}
 use Rattle.hlfir_ops.specs.declared.what.ValueBinary.TheVariants as binary
@@ -27,7 +28,6 @@ use Rattle.lower_values.specs.Operations.{nesting_of, joined}
 use Rattle.lower_values.specs.References.{or_nothing}
 use Rattle.lower_values.specs.Values.{constant_or, folded, call_by}
 use Rattle.kind_laws.specs.Found.{Holds}
-use Rattle.kind_laws.proofs.NoFaults.{impossible, left_false}
 use Rattle.form_laws.proofs.Constants.{HasDefault, ConstantsFit, constancy-fits}
 use Rattle.form_laws.proofs.Typed.{IsOf, binary-made}
 use Rattle.form_laws.proofs.Walking.{Good, done-good, Leaves, done-leaves}

@@ -22,11 +22,11 @@ use Rattle.lower_values.specs.Lowerings.{◌>>=◌, scoped}
 use Rattle.lower_values.specs.References.{declare_of, reference, bound_word, bound_or_size, is_allocated, first_name, dimension_in, inquiry_or_nothing, inquiry}
 use Rattle.ws_types.specs.Kinds.{when}
 use Rattle.ws_sema.specs.Statements.{allocatable_faults}
+use Rattle.ws_sema.proofs.NoFaults.{none_first, none_after, not_broken, impossible, left_false, right_false}
 use Rattle.kind_laws.proofs.ScopesFound.{allocatables_are_found}
 use Rattle.kind_laws.specs.Standing.{Knows}
 use Rattle.kind_laws.specs.Found.{Holds, ScopeIsFound}
 use Rattle.kind_laws.proofs.Held.{held-first}
-use Rattle.kind_laws.proofs.NoFaults.{none_first, none_after, not_broken, impossible, left_false, right_false}
 use Rattle.form_laws.proofs.Operands.{IsFound}
 use Rattle.form_laws.proofs.Walking.{Good, then-good}
 use Rattle.form_laws.proofs.Entries.{NamesArray, names-array, allocatable_kind}

@@ -15,7 +15,7 @@ use Rattle.hlfir_ops.specs.RulesValues.{Value}
 use Rattle.hlfir_ops.specs.RulesForms.{has_regions, is_filled_where, takes, gives}
 use Rattle.hlfir_ops.specs.RulesPlaces.{Around, Place, Site, is_elemental, around_in, from_number, sites_of, sites_in}
 use Rattle.hlfir_ops.specs.Rules.{operands_fit, result_fits}
-use Rattle.kind_laws.proofs.Sited.{op_sites-parts, sites_of-append, defined_by}
+use Rattle.hlfir_ops.proofs.Sites.{op_sites-parts, sites_of-append, defined_by}
 
 module _ (vs : List Value) where
   -- whether an op has its form; the Bool says whether it stands in an elemental

@@ -7,6 +7,7 @@ use Rattle.ws_types.specs.declared.types.Entry.{Entry}
 use Rattle.ws_types.specs.declared.types.Standing.{Standing}
 use Rattle.ws_types.specs.declared.types.Standing.TheVariants.{Declared, Active, Index, Barred}
 use Rattle.ws_types.specs.Names.{Name, name_faults}
+use Rattle.ws_sema.proofs.NoFaults.{none_first, none_after, impossible}
 use Rattle.hlfir_ops.specs.declared.kinds.Elem.{Elem}
 use Rattle.hlfir_ops.specs.declared.kinds.Elem.TheVariants.{I32, I1}
 use Rattle.hlfir_ops.specs.declared.kinds.ValueKind.{ValueKind}
@@ -28,7 +29,6 @@ use Rattle.form_laws.proofs.Operands.{IsSolid, IsFound, giving-found, giving-fit
 use Rattle.form_laws.proofs.Walking.{Good, then-good, done-good}
 use Rattle.kind_laws.proofs.FormsFound.{declare_found}
 use Rattle.kind_laws.proofs.Held.{held-first}
-use Rattle.kind_laws.proofs.NoFaults.{none_first, none_after, impossible}
 use Rattle.kind_laws.proofs.TypesTold.{same_elem-same}
 
 -- a place, or the kind of a value

@@ -9,9 +9,9 @@ use Rattle.ws_types.specs.declared.types.Typed.{Typed}
 use Rattle.ws_types.specs.declared.types.Arguments.{Arguments}
 use Rattle.ws_types.specs.Operations.{differ, takes_truth, joins_truths, is_other_type, is_above, unary_faults, binary_faults, subscript_faults, part_faults, vector_faults, call_faults}
 use Rattle.ws_types.specs.Expressions.{wide_faults}
+use Rattle.ws_sema.proofs.NoFaults.{none_first, none_after, not_broken, impossible, left_false, right_false}
 use Rattle.hlfir_ops.specs.declared.what.ValueBinary.{ValueBinary}
 use Rattle.form_laws.proofs.Folded.{Nests}
-use Rattle.kind_laws.proofs.NoFaults.{none_first, none_after, not_broken, impossible, left_false, right_false}
 use Rattle.kind_laws.proofs.TypesTold.{not_other}
 
 pub small_number : (n : ℕ) → n < 2147483648 → in_range default_half (pos n) ≡ true

@@ -7,6 +7,7 @@ use Rattle.ws_tree.specs.Grammatical.{IsSide, IsDesignator, IsOptional}
 use Rattle.ws_types.specs.declared.types.Row.{Row}
 use Rattle.ws_types.specs.Expressions.{faults}
 use Rattle.ws_types.specs.Lists.{given_faults}
+use Rattle.ws_sema.proofs.NoFaults.{none_first, none_after}
 use Rattle.hlfir_ops.specs.declared.kinds.Elem.TheVariants.{I32}
 use Rattle.hlfir_ops.specs.RulesValues.{Value, kind_of}
 use Rattle.lower_values.specs.declared.operand.Operand.{Operand}
@@ -19,7 +20,6 @@ use Rattle.lower_values.specs.Lists.{stride}
 use Rattle.lower_assign.specs.Statements.{whole_left, left_of, left}
 use Rattle.form_laws.proofs.Passing.{AreFit, fit-none}
 use Rattle.kind_laws.proofs.Sides.{sides_are_expressions}
-use Rattle.kind_laws.proofs.NoFaults.{none_first, none_after}
 use Rattle.kind_laws.proofs.TypesTold.{no_wide}
 use Rattle.form_laws.proofs.References.{boxed-boxed, constant-good, variable-found}
 use Rattle.form_laws.proofs.Lowered as lowered

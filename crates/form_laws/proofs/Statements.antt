@@ -16,6 +16,7 @@ use Rattle.ws_types.specs.Expressions.{faults}
 use Rattle.ws_types.specs.declared.types.Entry.{Entry}
 use Rattle.ws_types.specs.Names.{standing_of, name_type, entry_type}
 use Rattle.ws_sema.specs.Statements.{is_other_bounds, allocatable_faults, allocated_bound_faults, allocated_bounds_faults, allocation_faults, item_faults}
+use Rattle.ws_sema.proofs.NoFaults.{none_first, none_after, not_broken, impossible}
 use Rattle.hlfir_ops.specs.declared.kinds.Elem.TheVariants.{I32}
 use Rattle.hlfir_ops.specs.declared.what.What.{What}
 use Rattle.hlfir_ops.specs.declared.what.What.TheVariants as what
@@ -35,7 +36,6 @@ use Rattle.lower_assign.specs.Statements.{yielded, all_yielded, left, item, is_w
 use Rattle.small_laws.proofs.Tables as tables
 use Rattle.kind_laws.proofs.TypeFacts.{same_type, no_type}
 use Rattle.kind_laws.proofs.ScopesFound.{allocatables_are_found}
-use Rattle.kind_laws.proofs.NoFaults.{none_first, none_after, not_broken, impossible}
 use Rattle.kind_laws.proofs.Ends.{parts-all_yielded}
 use Rattle.form_laws.proofs.Entries.{allocatable_kind}
 use Rattle.form_laws.proofs.Stages.{Stage, stage-region}

@@ -13,6 +13,7 @@ use Rattle.ws_types.specs.declared.types.Arguments.{Arguments}
 use Rattle.ws_types.specs.Names.{standing_of}
 use Rattle.ws_types.specs.Operations.{differ, with_argument, no_arguments, takes, is_inquiry, call_faults, unary_faults, binary_faults, scalar_faults, subscript_faults}
 use Rattle.ws_types.specs.Expressions.{listed, how_many, typed, arguments, faults, all_faults, subs_faults, given_faults}
+use Rattle.ws_sema.proofs.NoFaults.{none_first, none_after, allowed, right_false}
 use Rattle.hlfir_ops.specs.declared.kinds.Elem.TheVariants.{I32}
 use Rattle.hlfir_ops.specs.declared.what.BoundWord.TheVariants.{Lower, Upper}
 use Rattle.hlfir_ops.specs.declared.what.ValueBinary.{ValueBinary}
@@ -29,7 +30,6 @@ use Rattle.lower_values.specs.Values.{value, values, nested, subscripts, given_o
 use Rattle.kind_laws.specs.Found.{Holds}
 use Rattle.kind_laws.proofs.TypedExpressions.{types_are_known}
 use Rattle.kind_laws.proofs.Held.{held-first, held-rest}
-use Rattle.kind_laws.proofs.NoFaults.{none_first, none_after, allowed, right_false}
 use Rattle.kind_laws.proofs.TypesTold.{scalar_says, no_wide}
 use Rattle.form_laws.proofs.Operands.{IsFound}
 use Rattle.form_laws.proofs.Typed.{IsOf}

@@ -3,6 +3,7 @@ use Rattle.std.proofs.Common.{◌≡◌, refl, sym, ap, ◌∙◌, ℕ, Bool, tr
 use Rattle.ws_types.specs.declared.types.Typed.{Typed}
 use Rattle.ws_types.specs.declared.types.Arguments.{Arguments}
 use Rattle.ws_types.specs.Operations.{no_arguments, with_argument, vector_type, item_limit, differ}
+use Rattle.ws_sema.proofs.NoFaults.{left_false}
 use Rattle.hlfir_ops.specs.declared.kinds.ValueKind.TheVariants.{Array}
 use Rattle.hlfir_ops.specs.RulesValues.{rank_of}
 use Rattle.lower_values.specs.declared.operand.Operand.{Operand}
@@ -11,7 +12,6 @@ use Rattle.lower_values.specs.Scopes.{Scope}
 use Rattle.lower_values.specs.Operations.{rank_from, first_elem, vector}
 use Rattle.kind_laws.proofs.TypeFacts.{same_type, chosen_type, not_chosen}
 use Rattle.kind_laws.proofs.Made.{Makes, IsOf, makes-giving, array_type}
-use Rattle.kind_laws.proofs.NoFaults.{left_false}
 
 -- operands of these types
 abbrev pub AreOf : List Typed → List Operand → Type 0

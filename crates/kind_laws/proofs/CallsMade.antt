@@ -11,6 +11,7 @@ use Rattle.ws_types.specs.declared.types.Row.{Row}
 use Rattle.ws_types.specs.Operations.{no_arguments, is_inquiry, is_reduction, is_wrong_choice, has_wrong_type, has_wrong_rank, call_gives_truth, call_type, is_allocated_word, inquired_type, inquiry_type}
 use Rattle.ws_types.specs.Names.{name_type}
 use Rattle.ws_types.specs.Expressions.{first_standing}
+use Rattle.ws_sema.proofs.NoFaults.{left_false}
 use Rattle.hlfir_ops.specs.declared.kinds.Elem.TheVariants.{I32, I1}
 use Rattle.hlfir_ops.specs.declared.kinds.ValueKind.TheVariants.{Scalar}
 use Rattle.lower_values.specs.declared.operand.Operand.{Operand}
@@ -19,7 +20,6 @@ use Rattle.lower_values.specs.Scopes.{Scope}
 use Rattle.lower_values.specs.Lowerings.{scoped, ◌>>=◌}
 use Rattle.lower_values.specs.Operations.{nesting_of, call_on, operation, what_of, call_elem}
 use Rattle.lower_values.specs.References.{bound_word, bound_or_size, size, bound, dimension_in, inquiry, reference, is_allocated, declare_of}
-use Rattle.kind_laws.proofs.NoFaults.{left_false}
 use Rattle.kind_laws.proofs.TypeFacts.{same_type, no_type, chosen_type, not_chosen}
 use Rattle.kind_laws.proofs.Made.{Makes, makes-then, makes-scoped, makes-giving, IsOf, scalar_type, operation_made}
 use Rattle.kind_laws.proofs.Arguments.{AreOf, argued, argued-rank}

@@ -10,7 +10,7 @@ use Rattle.ws_types.specs.declared.constant.Constancy.TheVariants.{Value, NoValu
 use Rattle.ws_types.specs.Names.{Name}
 use Rattle.ws_types.specs.Constants.{known, constant_of, constancy, constant_faults, value_of}
 use Rattle.ws_sema.specs.Declarations.{is_declared, heading_faults, decls_faults, constant_row, constants_from, with_constant, constants_after}
-use Rattle.kind_laws.proofs.NoFaults.{none_first, none_after, not_broken, impossible, left_false, right_false, both_false}
+use Rattle.ws_sema.proofs.NoFaults.{none_first, none_after, not_broken, impossible, left_false, right_false, both_false}
 
 -- ---- one list of constants after another
 

@@ -14,13 +14,13 @@ use Rattle.ws_types.specs.Names.{standing_of, integer}
 use Rattle.ws_types.specs.Constants.{constancy, is_sign, is_arithmetic, signed, joined}
 use Rattle.ws_types.specs.Operations.{gives_truth}
 use Rattle.ws_types.specs.Expressions.{number_limit, typed, faults}
+use Rattle.ws_sema.proofs.NoFaults.{none_first, none_after}
 use Rattle.hlfir_ops.specs.declared.kinds.Elem.TheVariants.{I32}
 use Rattle.lower_values.specs.declared.operand.Operand.{Operand}
 use Rattle.lower_values.specs.Scopes.{Scope}
 use Rattle.lower_values.specs.Lowerings.{Lowering}
 use Rattle.lower_values.specs.Values.{constant_or, folded}
 use Rattle.kind_laws.specs.Standing.{Knows}
-use Rattle.kind_laws.proofs.NoFaults.{none_first, none_after}
 use Rattle.kind_laws.proofs.TypedExpressions.{type_known}
 use Rattle.kind_laws.proofs.TypeFacts.{same_type, no_type, chosen_type, unary_operand, joined_types, binary_result}
 use Rattle.kind_laws.proofs.Made.{Makes, makes-scoped, IsOf, constant_made}

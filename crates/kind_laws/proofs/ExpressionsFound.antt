@@ -12,6 +12,7 @@ use Rattle.ws_types.specs.Kinds.{when}
 use Rattle.ws_types.specs.Names.{standing_of}
 use Rattle.ws_types.specs.Operations.{takes, is_inquiry}
 use Rattle.ws_types.specs.Expressions.{listed, faults, all_faults, wide_faults}
+use Rattle.ws_sema.proofs.NoFaults.{none_first, none_after, impossible}
 use Rattle.hlfir_ops.specs.declared.kinds.Elem.TheVariants.{I32, I1}
 use Rattle.hlfir_ops.specs.declared.what.ValueBinary.{ValueBinary}
 use Rattle.hlfir_ops.specs.declared.what.What.TheVariants as what
@@ -26,7 +27,6 @@ use Rattle.lower_values.specs.Values.{call_by, part_of, value, values, nested, s
 use Rattle.kind_laws.specs.Standing.{Knows}
 use Rattle.kind_laws.specs.Found.{Found, ScopeIsFound}
 use Rattle.kind_laws.specs.Laws.{ValuesAreFound}
-use Rattle.kind_laws.proofs.NoFaults.{none_first, none_after, impossible}
 use Rattle.kind_laws.proofs.FormsMade.{parts_faultless, is_nesting}
 use Rattle.kind_laws.proofs.ExpressionsMade.{HasOne, has_one}
 use Rattle.kind_laws.proofs.Finding.{Finds, finds-done, finds-then, finds-next}

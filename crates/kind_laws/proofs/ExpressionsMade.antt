@@ -17,6 +17,7 @@ use Rattle.ws_types.specs.Names.{Name, standing_of, integer, logical}
 use Rattle.ws_types.specs.Operations.{takes, is_inquiry, no_subscripts, part_faults, part_type, no_arguments, with_argument, call_type, vector_type}
 use Rattle.ws_types.specs.Expressions.{listed, how_many, first_standing, number_limit, named_type, named_faults, typed, faults, arguments, all_faults, subs_faults, called_type, called_faults}
 use Rattle.ws_types.specs.Expressions as types
+use Rattle.ws_sema.proofs.NoFaults.{none_first, none_after}
 use Rattle.hlfir_ops.specs.declared.kinds.Elem.TheVariants.{I32, I1}
 use Rattle.hlfir_ops.specs.declared.what.BoundWord.TheVariants.{Lower, Upper}
 use Rattle.hlfir_ops.specs.declared.what.ValueBinary.{ValueBinary}
@@ -31,7 +32,6 @@ use Rattle.lower_values.specs.References.{reference, loaded, named, bound, subsc
 use Rattle.lower_values.specs.Values.{part_of, value, values, nested, subscripts, subscript, given_or}
 use Rattle.kind_laws.specs.Standing.{Knows}
 use Rattle.kind_laws.specs.Laws.{KindsAreTypes}
-use Rattle.kind_laws.proofs.NoFaults.{none_first, none_after}
 use Rattle.kind_laws.proofs.TypesKnown.{name_known}
 use Rattle.kind_laws.proofs.TypedExpressions.{type_known}
 use Rattle.kind_laws.proofs.TypeFacts.{same_type, no_type, chosen_type, unary_operand, unary_truth, binary_result, selected, part_result}

@@ -23,7 +23,7 @@ use Rattle.ws_types.specs.Lists.{given_faults}
 use Rattle.ws_sema.specs.declared.within.Within.{Within}
 use Rattle.ws_sema.specs.declared.within.Within.TheVariants as within
 use Rattle.ws_sema.specs.Statements.{is_inside, is_masked, is_outside, scalar_expr_faults, header_faults, forall_mask_faults, loop_faults, items_faults, allocations_faults, deallocations_faults, with_active, else_mask_faults, else_control, mask_rank, under, where_mask_faults, block_faults, body_faults, elses_faults}
-use Rattle.kind_laws.proofs.NoFaults.{none_first, none_after, impossible, looked_into, allowed}
+use Rattle.ws_sema.proofs.NoFaults.{none_first, none_after, impossible, looked_into, allowed}
 
 -- ---- WHERE
 

@@ -11,11 +11,12 @@ use Rattle.hlfir_ops.specs.declared.op.Region.{Region}
 use Rattle.hlfir_ops.specs.Trees.{op_of}
 use Rattle.hlfir_ops.specs.Numbers.{numbers_of}
 use Rattle.hlfir_ops.specs.RulesValues.{Value, source_of, is_declares, own_values, values_of, values_in, value_at, is_allocatable}
+use Rattle.hlfir_ops.proofs.Valued.{values_of-append, op_values-parts}
 use Rattle.lower_values.specs.declared.operand.Operand.{Operand}
 use Rattle.lower_values.specs.Scopes.{Scope}
 use Rattle.lower_values.specs.Lowerings.{Lowering, done, ◌>>=◌, scoped, giving, giving_by, regions_from}
 use Rattle.kind_laws.specs.Found.{Holds, Found}
-use Rattle.kind_laws.proofs.Sited.{values_of-append, values_of-length, op_values-parts}
+use Rattle.kind_laws.proofs.Counted.{values_of-length}
 
 -- ---- lists of values
 

@@ -20,6 +20,7 @@ use Rattle.ws_types.specs.Names.{Name, name_faults}
 use Rattle.ws_types.specs.Constants.{constancy}
 use Rattle.ws_types.specs.Operations.{is_allocated_word, inquiry_faults}
 use Rattle.ws_types.specs.Expressions.{first_standing}
+use Rattle.ws_sema.proofs.NoFaults.{none_first, none_after, impossible}
 use Rattle.hlfir_ops.specs.declared.kinds.Elem.{Elem}
 use Rattle.hlfir_ops.specs.declared.kinds.Elem.TheVariants.{I32, I1}
 use Rattle.hlfir_ops.specs.declared.kinds.ValueKind.{ValueKind}
@@ -38,7 +39,6 @@ use Rattle.lower_values.specs.References.{variable_of, declare_of, boxed, loaded
 use Rattle.lower_values.specs.Values.{constant_or, folded}
 use Rattle.kind_laws.specs.Found.{Found, DeclareIsFound, IndexIsFound, ScopeIsFound}
 use Rattle.kind_laws.specs.Standing.{FitsEntry, EntryIsKnown, NameIsKnown}
-use Rattle.kind_laws.proofs.NoFaults.{none_first, none_after, impossible}
 use Rattle.kind_laws.proofs.Finding.{Finds, finds-done, finds-then, finds-next, finds-scoped, finds-giving_by, found_value, given_found}
 
 operand_or : Operand → Option Operand → Operand

@@ -20,6 +20,7 @@ use Rattle.ws_types.specs.declared.types.Subscripts.{Subscripts}
 use Rattle.ws_types.specs.Kinds.{when}
 use Rattle.ws_types.specs.Operations.{takes_truth, gives_truth, takes, is_inquiry, has_wrong_type, is_other_number, part_faults, with_subscript, with_argument}
 use Rattle.ws_types.specs.Expressions.{listed, how_many, typed, arguments, all_faults}
+use Rattle.ws_sema.proofs.NoFaults.{none_first, none_after, not_broken, impossible, not_false}
 use Rattle.hlfir_ops.specs.declared.kinds.Elem.{Elem}
 use Rattle.hlfir_ops.specs.declared.kinds.Elem.TheVariants.{I32, I1}
 use Rattle.hlfir_ops.specs.declared.what.ValueBinary.{ValueBinary}
@@ -35,7 +36,6 @@ use Rattle.lower_values.specs.Operations.{rank_from, binary_of, binary_operation
 use Rattle.lower_values.specs.References.{sub_kind, added_rank, subscript_of, designated}
 use Rattle.lower_values.specs.Values.{call_by}
 use Rattle.lower_values.proofs.Named.{section_rank-more}
-use Rattle.kind_laws.proofs.NoFaults.{none_first, none_after, not_broken, impossible, not_false}
 use Rattle.kind_laws.proofs.TypedExpressions.{type_known}
 use Rattle.kind_laws.proofs.TypeFacts.{no_type, joined_types, selected}
 use Rattle.kind_laws.proofs.Made.{Makes, makes-done, makes-giving, IsOf, IsReferenceTo, IsPartOf, operation_made, parentheses_made}

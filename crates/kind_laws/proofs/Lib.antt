@@ -1,9 +1,7 @@
-pub mod NoFaults
-pub mod Grammar
 pub mod Faultless
 pub mod TypesTold
 pub mod Ends
-pub mod Sited
+pub mod Counted
 pub mod TypesKnown
 pub mod TypedExpressions
 pub mod Made

@@ -13,6 +13,7 @@ use Rattle.ws_types.specs.declared.types.Standing.TheVariants.{Declared, Active,
 use Rattle.ws_types.specs.Names.{Name, standing_of}
 use Rattle.ws_types.specs.Constants.{constant_of}
 use Rattle.ws_sema.specs.Declarations.{is_declared, is_some, is_empty, is_left_out, is_large, value_faults, shape_faults, decls_faults, constants_from, with_constant, constants_after, row_of, table_of}
+use Rattle.ws_sema.proofs.NoFaults.{none_first, none_after, not_broken, left_false, right_false}
 use Rattle.lower_values.specs.declared.names.Names.{Names}
 use Rattle.lower_values.specs.declared.names.NamedTruth.{NamedTruth}
 use Rattle.lower_assign.specs.Known.{elem, declared_shape, variable_kind, kind_of, variable, declares_variable, if_variable, variable_decls, numbered, truths_of}
@@ -20,7 +21,6 @@ use Rattle.lower_values.specs.References.{variable_of}
 use Rattle.lower_values.specs.Scopes.{scope_at}
 use Rattle.kind_laws.specs.Laws.{NamesAreKnown}
 use Rattle.kind_laws.specs.Standing.{FitsEntry, ConstantIsKnown, EntryIsKnown, NameIsKnown}
-use Rattle.kind_laws.proofs.NoFaults.{none_first, none_after, not_broken, left_false, right_false}
 use Rattle.kind_laws.proofs.ConstantsKnown.{HasOnly, only_more, new_name, not_later, declared_more, value_after, none_later, new_value}
 
 -- ---- kinds of declares

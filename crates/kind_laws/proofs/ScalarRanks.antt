@@ -15,7 +15,7 @@ use Rattle.ws_types.specs.declared.types.Subscripts.{Subscripts}
 use Rattle.ws_types.specs.Operations.{takes, is_inquiry, is_reduction, with_subscript, no_arguments, with_argument, vector_faults, call_type, is_outside}
 use Rattle.ws_types.specs.Expressions.{listed, typed, arguments, all_faults, subs_faults, called_type, called_faults}
 use Rattle.ws_types.specs.Expressions as types
-use Rattle.kind_laws.proofs.NoFaults.{none_first, none_after, impossible, left_false}
+use Rattle.ws_sema.proofs.NoFaults.{none_first, none_after, impossible, left_false}
 use Rattle.kind_laws.proofs.TypeFacts.{not_chosen}
 use Rattle.kind_laws.proofs.TypedExpressions.{type_known}
 use Rattle.kind_laws.proofs.Arguments.{argued}

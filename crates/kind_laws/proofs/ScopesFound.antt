@@ -12,6 +12,7 @@ use Rattle.ws_types.specs.Names.{Name, standing_of, name_type, name_faults, entr
 use Rattle.ws_types.specs.Operations.{is_other_type, is_above, scalar_faults}
 use Rattle.ws_sema.specs.declared.within.Within.{Within}
 use Rattle.ws_sema.specs.Statements.{variable_faults, loop_faults, allocatable_faults}
+use Rattle.ws_sema.proofs.NoFaults.{none_first, none_after, not_broken, impossible, not_false}
 use Rattle.hlfir_ops.specs.declared.kinds.Elem.TheVariants.{I32}
 use Rattle.hlfir_ops.specs.declared.kinds.ValueKind.{ValueKind}
 use Rattle.hlfir_ops.specs.declared.kinds.ValueKind.TheVariants.{Scalar, Place, Declared as Declared', Allocatable, Section, Array}
@@ -21,6 +22,7 @@ use Rattle.hlfir_ops.specs.declared.op.Region.{Region, out-roll-Region}
 use Rattle.hlfir_ops.specs.Trees.{op_of}
 use Rattle.hlfir_ops.specs.Numbers.{names_in, own_numbers, numbers_of}
 use Rattle.hlfir_ops.specs.RulesValues.{Value, Declares, own_values, op_values, values_of, values_in, value_at, value_of_name}
+use Rattle.hlfir_ops.proofs.Valued.{op_values-parts}
 use Rattle.lower_values.specs.declared.operand.Operand.{Operand}
 use Rattle.lower_assign.specs.Known.{elem}
 use Rattle.lower_values.specs.Scopes.{Scope, Indexed, inside}
@@ -30,12 +32,11 @@ use Rattle.lower_values.specs.References.{declare_of, or_nothing}
 use Rattle.kind_laws.specs.Standing.{FitsEntry, EntryIsKnown, NameIsKnown}
 use Rattle.kind_laws.specs.Found.{Holds, HoldsNames, RegionsHeld, IndexIsFound, ScopeIsFound, IsDeclareOf}
 use Rattle.kind_laws.specs.Laws.{InsideIsFound, RegionsAreHeld, DeclaresAreFound, AllocatablesAreFound, LoopVariablesAreFound, IsVariable}
-use Rattle.kind_laws.proofs.NoFaults.{none_first, none_after, not_broken, impossible, not_false}
-use Rattle.kind_laws.proofs.Sited.{op_values-parts, values_of-length}
 use Rattle.kind_laws.proofs.Finding.{value_here}
 use Rattle.kind_laws.proofs.FormsFound.{declare_found}
 use Rattle.kind_laws.proofs.ScopesKnown.{entry_variable}
 use Rattle.kind_laws.proofs.TypesTold.{no_rank}
+use Rattle.kind_laws.proofs.Counted.{values_of-length}
 
 -- ---- index names
 

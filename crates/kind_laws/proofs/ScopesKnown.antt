@@ -13,6 +13,7 @@ use Rattle.ws_types.specs.Constants.{constant_of}
 use Rattle.ws_types.specs.Tables.{with_indexes, barred}
 use Rattle.ws_sema.specs.declared.within.Within.{Within}
 use Rattle.ws_sema.specs.Statements.{variable_faults, loop_faults, is_listed, header_faults, activated}
+use Rattle.ws_sema.proofs.NoFaults.{none_first, none_after, not_broken, impossible}
 use Rattle.hlfir_ops.specs.declared.what.What.TheVariants.{Forall}
 use Rattle.hlfir_ops.specs.declared.op.ValueId.{ValueId}
 use Rattle.lower_values.specs.declared.names.Names.{Names}
@@ -20,7 +21,6 @@ use Rattle.lower_values.specs.Scopes.{Scope, Indexed, index_of, inside}
 use Rattle.lower_values.specs.Scopes as scopes
 use Rattle.kind_laws.specs.Standing.{EntryIsKnown, NameIsKnown, Knows}
 use Rattle.kind_laws.specs.Laws.{InsideIsKnown, HeaderIsKnown, ForallIsKnown, LoopIsKnown, index_names}
-use Rattle.kind_laws.proofs.NoFaults.{none_first, none_after, not_broken, impossible}
 
 -- ---- scopes in which a name stands for the same
 

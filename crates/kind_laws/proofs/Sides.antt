@@ -12,6 +12,7 @@ use Rattle.ws_types.specs.declared.types.Standing.{Standing}
 use Rattle.ws_types.specs.declared.types.Standing.TheVariants.{Declared, Active, Index, Barred}
 use Rattle.ws_types.specs.Names.{Name, standing_of, name_type, name_faults, entry_type, is_constant, target_faults, target_type}
 use Rattle.ws_types.specs.Expressions.{typed, faults, wide_faults}
+use Rattle.ws_sema.proofs.NoFaults.{none_first, none_after, not_broken, impossible}
 use Rattle.hlfir_ops.specs.declared.kinds.Elem.{Elem}
 use Rattle.hlfir_ops.specs.declared.kinds.ValueKind.{ValueKind}
 use Rattle.hlfir_ops.specs.declared.kinds.ValueKind.TheVariants.{Scalar, Place, Declared as Declared', Allocatable, Section, Array}
@@ -29,7 +30,6 @@ use Rattle.lower_values.specs.Values.{part_of, subscripts}
 use Rattle.lower_assign.specs.Statements.{whole_left, left_of}
 use Rattle.kind_laws.specs.Found.{IsDeclareOf, IsLeftOf}
 use Rattle.kind_laws.specs.Laws.{SidesAreExpressions, LeftsAreFound, IsVariable}
-use Rattle.kind_laws.proofs.NoFaults.{none_first, none_after, not_broken, impossible}
 use Rattle.kind_laws.proofs.TypedExpressions.{type_known}
 use Rattle.kind_laws.proofs.Made.{IsPartOf}
 use Rattle.kind_laws.proofs.ExpressionsMade.{part_of_made}

@@ -13,8 +13,8 @@ use Rattle.ws_types.specs.declared.types.Subscripts.{Subscripts}
 use Rattle.ws_types.specs.Names.{standing_of, logical}
 use Rattle.ws_types.specs.Operations.{takes, is_inquiry, no_subscripts, no_arguments, with_argument}
 use Rattle.ws_types.specs.Expressions.{listed, how_many, first_standing, named_type, wide_faults, typed, faults, arguments, all_faults, subscripts, subs_faults, with_sub, sub_faults, is_sound, given_faults}
+use Rattle.ws_sema.proofs.NoFaults.{none_first, none_after, impossible}
 use Rattle.kind_laws.specs.Laws.{TypeIsKnown, TypesAreKnown}
-use Rattle.kind_laws.proofs.NoFaults.{none_first, none_after, impossible}
 use Rattle.kind_laws.proofs.TypesKnown.{known, number_known, name_known, unary_known, binary_known, subscript_sound, scalar_sound, part_known, argument_sound, vector_known, call_known, inquiry_known, called_known}
 
 four_true : (x y z u : Bool) → x ≡ true → y ≡ true → z ≡ true → u ≡ true → (x && (y && z && u)) ≡ true

@@ -15,8 +15,8 @@ use Rattle.ws_types.specs.Kinds.{when}
 use Rattle.ws_types.specs.Names.{name_type, name_faults, integer, entry_type, is_no_allocatable}
 use Rattle.ws_types.specs.Operations.{takes_truth, joins_truths, is_other_type, ranks_differ, unary_faults, unary_type, binary_faults, joined_type, binary_type, scalar_faults, is_scalar, subscript_faults, with_subscript, part_faults, selected_type, part_type, with_argument, item_limit, vector_faults, vector_type, is_reduction, has_wrong_type, has_wrong_rank, call_faults, call_type, is_allocated_word, is_outside_type, has_wide_dimension, inquiry_faults, inquired_type, inquiry_type}
 use Rattle.ws_types.specs.Expressions.{number_limit, number_type, number_faults}
+use Rattle.ws_sema.proofs.NoFaults.{none_first, none_after, not_broken, impossible, both_false, not_true}
 use Rattle.kind_laws.specs.Laws.{TypeIsKnown}
-use Rattle.kind_laws.proofs.NoFaults.{none_first, none_after, not_broken, impossible, both_false, not_true}
 
 -- ---- what is known
 

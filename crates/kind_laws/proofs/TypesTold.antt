@@ -4,10 +4,10 @@ use Rattle.ws_base.specs.declared.refusal.RefusalKind.TheVariants as kind
 use Rattle.ws_types.specs.declared.types.Typed.{Typed}
 use Rattle.ws_types.specs.Operations.{same_truth, is_other_type, is_above, scalar_faults}
 use Rattle.ws_types.specs.Expressions.{wide_faults}
+use Rattle.ws_sema.proofs.NoFaults.{not_false, none_first, none_after, not_broken, impossible}
 use Rattle.hlfir_ops.specs.declared.kinds.Elem.{Elem}
 use Rattle.hlfir_ops.specs.declared.kinds.Elem.TheVariants.{I32, I1}
 use Rattle.hlfir_ops.specs.RulesValues.{same_elem}
-use Rattle.kind_laws.proofs.NoFaults.{not_false, none_first, none_after, not_broken, impossible}
 
 same_truths : (b c : Bool) → same_truth b c ≡ true → c ≡ b
 same_truths true c h = h

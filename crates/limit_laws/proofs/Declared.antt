@@ -24,7 +24,7 @@ use Rattle.lower_values.specs.Lowerings.{Lowering, done, ◌>>=◌ as ◌then◌
 use Rattle.lower_assign.specs.Known.{declares_variable, if_variable, variable_decls, numbered}
 use Rattle.lower_constructs.specs.Modules.{declaration}
 use Rattle.small_laws.proofs.NoFaults.{none_first, none_after, not_broken}
-use Rattle.kind_laws.proofs.Sited.{sites_of-append, defined_by}
+use Rattle.hlfir_ops.proofs.Sites.{sites_of-append, defined_by}
 use Rattle.limit_laws.proofs.Costs.{one_if}
 use Rattle.limit_laws.proofs.Passing.{fits_there, passing-at, regions-none}
 use Rattle.limit_laws.proofs.Shapes.{HasSmallKind}

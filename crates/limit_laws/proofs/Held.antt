@@ -9,8 +9,9 @@ use Rattle.hlfir_ops.specs.declared.op.Region.{Region, out-roll-Region}
 use Rattle.hlfir_ops.specs.Trees.{op_of, region_of}
 use Rattle.hlfir_ops.specs.Numbers.{names_in, own_numbers, numbers_of}
 use Rattle.hlfir_ops.specs.RulesValues.{Value, own_values, op_values, values_of, values_in, value_of_name}
+use Rattle.hlfir_ops.proofs.Valued.{op_values-parts}
 use Rattle.kind_laws.specs.Found.{Holds}
-use Rattle.kind_laws.proofs.Sited.{op_values-parts, values_of-length}
+use Rattle.kind_laws.proofs.Counted.{values_of-length}
 
 -- a part of all values, from this number on
 pub record HoldsValues (vs : List Value) (n : ℕ) (part : List Value) : Type 0 where

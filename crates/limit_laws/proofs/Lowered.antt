@@ -17,8 +17,8 @@ use Rattle.lower_assign.specs.Known.{names_of}
 use Rattle.lower_constructs.specs.Modules.{declaration, statement_list, lowered}
 use Rattle.small_laws.proofs.NoFaults.{none_first, none_after}
 use Rattle.small_laws.proofs.Accepted.{accepted_small}
+use Rattle.hlfir_ops.proofs.Sites.{sites_of-append, defined_by}
 use Rattle.kind_laws.specs.Found.{Holds, ScopeIsFound}
-use Rattle.kind_laws.proofs.Sited.{sites_of-append, defined_by}
 use Rattle.kind_laws.proofs.TypedExpressions.{types_are_known}
 use Rattle.kind_laws.proofs.ExpressionsMade.{kinds_are_types}
 use Rattle.kind_laws.proofs.ExpressionsFound.{values_are_found}

@@ -20,6 +20,8 @@ use Rattle.ws_types.specs.Expressions.{typed, faults}
 use Rattle.ws_sema.specs.declared.within.Within.{Within}
 use Rattle.ws_sema.specs.declared.within.Within.TheVariants as within
 use Rattle.ws_sema.specs.Statements.{header_faults, forall_mask_faults, loop_faults, enclosing_rank, under, mask_rank, mask_faults, with_active, else_mask_faults, else_control, block_faults, body_faults, elses_faults, stmts_faults}
+use Rattle.ws_sema.proofs.NoFaults.{none_first, none_after}
+use Rattle.ws_sema.proofs.Grammar.{where_parts, else_parts, forall_parts, loop_parts, shared_parts}
 use Rattle.hlfir_ops.specs.declared.what.What.TheVariants as what
 use Rattle.hlfir_ops.specs.declared.op.Op.{Op}
 use Rattle.hlfir_ops.specs.Trees.{region_of}
@@ -29,7 +31,6 @@ use Rattle.hlfir_ops.specs.RulesStatements.{fits_forall}
 use Rattle.hlfir_ops.specs.RulesValues.{Value}
 use Rattle.kind_laws.specs.Standing.{Knows}
 use Rattle.kind_laws.specs.Found.{ScopeIsFound}
-use Rattle.kind_laws.proofs.NoFaults.{none_first, none_after}
 use Rattle.lower_values.specs.Scopes.{inside}
 use Rattle.lower_values.specs.Lowerings.{◌>>=◌, scoped, regions_from, statement_of}
 use Rattle.lower_values.specs.References.{declare_of}
@@ -42,7 +43,6 @@ use Rattle.place_laws.proofs.PlainSides.{plain-all_yielded, plain-triple, plain-
 use Rattle.kind_laws.proofs.Held.{held-rest, held-statement}
 use Rattle.kind_laws.proofs.ScopesKnown.{forall_known, loop_known}
 use Rattle.kind_laws.proofs.ScopesFound.{inside_found}
-use Rattle.kind_laws.proofs.Grammar.{where_parts, else_parts, forall_parts, loop_parts, shared_parts}
 use Rattle.kind_laws.proofs.Faultless.{where_faultless, else_faultless, forall_faultless, loop_faultless, shared_faultless, IsOuter}
 use Rattle.kind_laws.proofs.Ends.{ops_in-second}
 use Rattle.place_laws.proofs.Keeping.{Keeps, keeps-done, keeps-then, keeps-region, keeps-where, keeps-elsewhere, elsewhere-is}

@@ -16,6 +16,8 @@ use Rattle.ws_types.specs.declared.types.Row.{Row}
 use Rattle.ws_types.specs.Expressions.{typed, faults}
 use Rattle.ws_sema.specs.declared.within.Within.TheVariants as within
 use Rattle.ws_sema.specs.Statements.{left_faults, left_type, control_faults, assign_faults, rank_of as type_rank, mask_faults, mask_rank, else_mask_faults, else_control, block_faults, body_faults, elses_faults}
+use Rattle.ws_sema.proofs.NoFaults.{none_first, none_after, impossible}
+use Rattle.ws_sema.proofs.Grammar.{where_parts, else_parts}
 use Rattle.hlfir_ops.specs.declared.kinds.ValueKind.{ValueKind}
 use Rattle.hlfir_ops.specs.declared.what.What.{What}
 use Rattle.hlfir_ops.specs.declared.what.What.TheVariants as what
@@ -29,7 +31,6 @@ use Rattle.hlfir_ops.specs.RulesRegions.{parts_in}
 use Rattle.hlfir_ops.specs.RulesStatements.{have_rank, controls_rank, is_controlled}
 use Rattle.kind_laws.specs.Standing.{Knows}
 use Rattle.kind_laws.specs.Found.{RegionsHeld, ScopeIsFound}
-use Rattle.kind_laws.proofs.NoFaults.{none_first, none_after, impossible}
 use Rattle.kind_laws.proofs.TypedExpressions.{type_known}
 use Rattle.lower_values.specs.Scopes.{Scope, inside}
 use Rattle.lower_values.specs.Lowerings.{Lowering, scoped, acting, regions_from, statement_of}
@@ -46,7 +47,6 @@ use Rattle.kind_laws.proofs.ScopesKnown.{inside_known}
 use Rattle.kind_laws.proofs.ScopesFound.{inside_found}
 use Rattle.place_laws.proofs.Yields.{second-yield, left-found, one_rank}
 use Rattle.place_laws.proofs.MaskFacts.{mask-type, same-rank, control-rank}
-use Rattle.kind_laws.proofs.Grammar.{where_parts, else_parts}
 use Rattle.kind_laws.proofs.Faultless.{where_faultless, else_faultless}
 use Rattle.place_laws.proofs.WhereMasks.{mask-found, first-rank}
 use Rattle.place_laws.proofs.Keeping.{Keeps, keeps-done, keeps-then, keeps-where, keeps-elsewhere}

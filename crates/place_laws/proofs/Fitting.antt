@@ -15,7 +15,7 @@ use Rattle.hlfir_ops.specs.Rules.{holds_statements, lists_fit}
 use Rattle.hlfir_ops.specs.RulesPlaces.{Around, Place, Site, around_in, from_number, op_sites, sites_of, sites_in}
 use Rattle.hlfir_ops.specs.RulesRegions.{last_of}
 use Rattle.hlfir_ops.specs.RulesStatements.{is_statement, is_declare, declares, is_also, is_like, follows, also_follows}
-use Rattle.kind_laws.proofs.Sited.{op_sites-parts, sites_of-append, defined_by}
+use Rattle.hlfir_ops.proofs.Sites.{op_sites-parts, sites_of-append, defined_by}
 use Rattle.kind_laws.proofs.Ends.{ops-region_of}
 use Rattle.lower_values.specs.Scopes.{Scope, inside}
 use Rattle.lower_values.specs.Lowerings.{Lowering, done, ◌>>=◌, scoped, regions_from, holding, statement_of}

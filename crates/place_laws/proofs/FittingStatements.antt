@@ -17,6 +17,7 @@ use Rattle.ws_sema.specs.declared.within.Within.TheVariants as within
 use Rattle.ws_sema.specs.Declarations.{table_of}
 use Rattle.ws_sema.specs.Statements.{under, mask_rank, else_control, with_active, block_faults, body_faults, else_mask_faults, else_faults, elses_faults, stmts_faults}
 use Rattle.ws_sema.proofs.Accepted.{no_stmt_faults}
+use Rattle.ws_sema.proofs.NoFaults.{none_first, none_after}
 use Rattle.hlfir_ops.specs.declared.what.What.{What}
 use Rattle.hlfir_ops.specs.declared.what.What.TheVariants as what
 use Rattle.hlfir_ops.specs.declared.op.ValueId.{ValueId}
@@ -35,7 +36,6 @@ use Rattle.lower_values.specs.References.{declare_of}
 use Rattle.lower_values.specs.Values.{value}
 use Rattle.lower_assign.specs.Statements.{yielded, all_yielded, left, is_whole_allocatable, assignment, allocation, deallocation, reading}
 use Rattle.lower_constructs.specs.Modules.{triple, triples, forall_mask, third, elsewhere, statement, statements, elsewheres, statement_list, declaration, lowered}
-use Rattle.kind_laws.proofs.NoFaults.{none_first, none_after}
 use Rattle.place_laws.specs.Laws.{ListsFit}
 use Rattle.place_laws.proofs.PlainValues.{plain-value}
 use Rattle.place_laws.proofs.PlainSides.{plain-yielded, plain-all_yielded, plain-left, plain-triple, plain-triples}

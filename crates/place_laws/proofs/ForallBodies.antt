@@ -17,6 +17,7 @@ use Rattle.ws_types.specs.declared.types.Row.{Row}
 use Rattle.ws_types.specs.Expressions.{typed, faults, wide_faults}
 use Rattle.ws_sema.specs.declared.within.Within.TheVariants as within
 use Rattle.ws_sema.specs.Statements.{left_faults, left_type, has_no_subscripts, assign_faults, forall_mask_faults, block_faults, body_faults}
+use Rattle.ws_sema.proofs.NoFaults.{none_first, none_after, impossible}
 use Rattle.hlfir_ops.specs.declared.what.What.TheVariants as what
 use Rattle.hlfir_ops.specs.declared.op.Op.{Op, out-Op}
 use Rattle.hlfir_ops.specs.Trees.{op_of, region_of}
@@ -27,7 +28,6 @@ use Rattle.hlfir_ops.specs.RulesRegions.{parts_in}
 use Rattle.hlfir_ops.specs.RulesStatements.{assigns, is_assign, is_forall_mask, is_forall_body, works_on_scalars, have_rank, fills_element, fills_elements, fits_forall}
 use Rattle.kind_laws.specs.Standing.{Knows}
 use Rattle.kind_laws.specs.Found.{Holds, ScopeIsFound}
-use Rattle.kind_laws.proofs.NoFaults.{none_first, none_after, impossible}
 use Rattle.kind_laws.proofs.TypedExpressions.{type_known}
 use Rattle.lower_values.specs.declared.operand.Operand.{Operand}
 use Rattle.lower_values.specs.declared.operand.Subscript.{Subscript}

@@ -9,12 +9,12 @@ use Rattle.ws_types.specs.Operations.{is_other_type, is_above, same_truth}
 use Rattle.ws_types.specs.Expressions.{typed, faults}
 use Rattle.ws_sema.specs.declared.within.Within.TheVariants as within
 use Rattle.ws_sema.specs.Statements.{target_standing, is_designator, left_faults, left_type, is_other_rank, control_faults, sides_faults, is_wrong_right, is_rank_0, mask_faults, scalar_mask_faults}
+use Rattle.ws_sema.proofs.NoFaults.{none_first, none_after, not_broken, left_false, right_false, not_false}
 use Rattle.hlfir_ops.specs.declared.kinds.Elem.TheVariants.{I1}
 use Rattle.hlfir_ops.specs.declared.kinds.ValueKind.{ValueKind}
 use Rattle.hlfir_ops.specs.RulesValues.{same_elem, elem_of, rank_of, is_mask}
 use Rattle.lower_assign.specs.Known.{elem}
 use Rattle.kind_laws.specs.Laws.{HasType}
-use Rattle.kind_laws.proofs.NoFaults.{none_first, none_after, not_broken, left_false, right_false, not_false}
 use Rattle.kind_laws.proofs.TypedExpressions.{type_known}
 use Rattle.kind_laws.proofs.TypesTold.{not_above}
 

@@ -16,6 +16,7 @@ use Rattle.ws_types.specs.Names.{standing_of}
 use Rattle.ws_types.specs.Operations.{is_inquiry, no_subscripts, with_subscript, no_arguments, part_faults, part_type}
 use Rattle.ws_types.specs.Expressions.{listed, how_many, named_type, named_faults, typed, faults, arguments, all_faults, subs_faults}
 use Rattle.ws_types.specs.Expressions as types
+use Rattle.ws_sema.proofs.NoFaults.{none_first, none_after}
 use Rattle.hlfir_ops.specs.declared.kinds.Elem.TheVariants.{I32, I1}
 use Rattle.hlfir_ops.specs.declared.what.ValueBinary.{ValueBinary}
 use Rattle.hlfir_ops.specs.RulesForms.{section_rank}
@@ -27,7 +28,6 @@ use Rattle.lower_values.specs.Operations.{binary_of, binary_operation, in_parent
 use Rattle.lower_values.specs.References.{sub_kind, or_nothing, reference, loaded, named, subscript_of, designated, inquiry}
 use Rattle.lower_values.specs.Values.{call_by, part_of, value, values, nested, subscripts, subscript}
 use Rattle.kind_laws.specs.Standing.{Knows}
-use Rattle.kind_laws.proofs.NoFaults.{none_first, none_after}
 use Rattle.kind_laws.proofs.TypeFacts.{no_type, unary_operand, binary_result, part_result}
 use Rattle.kind_laws.proofs.TypesKnown.{name_known}
 use Rattle.kind_laws.proofs.TypedExpressions.{type_known}

@@ -14,6 +14,7 @@ use Rattle.ws_tree.specs.Trees.{Stmts, end_stmts, more_stmts}
 use Rattle.ws_types.specs.declared.types.Row.{Row}
 use Rattle.ws_sema.specs.declared.within.Within.TheVariants as within
 use Rattle.ws_sema.specs.Statements.{serial_faults, block_faults, body_faults}
+use Rattle.ws_sema.proofs.NoFaults.{none_first, none_after, impossible}
 use Rattle.hlfir_ops.specs.declared.what.What.{What}
 use Rattle.hlfir_ops.specs.declared.what.What.TheVariants as what
 use Rattle.hlfir_ops.specs.declared.op.ValueId.{ValueId}
@@ -26,7 +27,6 @@ use Rattle.lower_values.specs.References.{declare_of}
 use Rattle.lower_values.specs.Values.{value}
 use Rattle.lower_assign.specs.Statements.{yielded, all_yielded, left, item, is_whole_allocatable, assignment, all_bounds, allocation, deallocation, reading}
 use Rattle.lower_constructs.specs.Modules.{triple, triples, forall_mask, third, statement, statements, elsewheres}
-use Rattle.kind_laws.proofs.NoFaults.{none_first, none_after, impossible}
 use Rattle.place_laws.proofs.Printed.{all-append, parts-op_of}
 
 -- each op of the list has a sort that passes this test

@@ -15,6 +15,7 @@ use Rattle.ws_types.specs.declared.types.Row.{Row}
 use Rattle.ws_types.specs.Expressions.{typed, faults}
 use Rattle.ws_sema.specs.declared.within.Within.TheVariants as within
 use Rattle.ws_sema.specs.Statements.{rank_of as type_rank, mask_faults, under, mask_rank, else_mask_faults, else_control, block_faults, elses_faults}
+use Rattle.ws_sema.proofs.NoFaults.{none_first, none_after}
 use Rattle.hlfir_ops.specs.declared.kinds.ValueKind.{ValueKind}
 use Rattle.hlfir_ops.specs.declared.what.What.TheVariants as what
 use Rattle.hlfir_ops.specs.declared.op.ValueId.{ValueId}
@@ -29,7 +30,6 @@ use Rattle.hlfir_ops.specs.Rules.{where_of}
 use Rattle.hlfir_ops.specs.declared.what.What.{What}
 use Rattle.kind_laws.specs.Standing.{Knows}
 use Rattle.kind_laws.specs.Found.{RegionsHeld, ScopeIsFound}
-use Rattle.kind_laws.proofs.NoFaults.{none_first, none_after}
 use Rattle.kind_laws.proofs.TypedExpressions.{type_known}
 use Rattle.kind_laws.proofs.Ends.{ops_in-first, ops_in-second, ops_in-third}
 use Rattle.lower_values.specs.Scopes.{Scope, inside}

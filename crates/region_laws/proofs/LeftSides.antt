@@ -16,6 +16,7 @@ use Rattle.ws_types.specs.Kinds.{when}
 use Rattle.ws_types.specs.Names.{standing_of, target_faults}
 use Rattle.ws_types.specs.Expressions.{faults, how_many, wide_faults}
 use Rattle.ws_sema.specs.Statements.{target_standing, is_designator, left_faults}
+use Rattle.ws_sema.proofs.NoFaults.{none_first, none_after, not_broken}
 use Rattle.array_meaning.specs.declared.world.World.{World}
 use Rattle.array_meaning.specs.Assign as assigned
 use Rattle.hlfir_ops.specs.declared.kinds.ValueKind.{ValueKind}
@@ -30,7 +31,6 @@ use Rattle.lower_values.specs.References.{variable_of, reference, load_of, loade
 use Rattle.lower_values.specs.Scopes.{Scope}
 use Rattle.lower_assign.specs.Statements.{yielded, left_of, is_whole_allocatable}
 use Rattle.lower_values.specs.Values.{part_of, subscripts}
-use Rattle.kind_laws.proofs.NoFaults.{none_first, none_after, not_broken}
 use Rattle.value_laws.specs.Names.{Agrees}
 use Rattle.value_laws.specs.Sound.{IsSoundPart, AreSoundSubs, AreClearSubs}
 use Rattle.value_laws.proofs.ClearExpressions.{clear-subs}

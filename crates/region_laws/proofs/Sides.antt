@@ -15,6 +15,7 @@ use Rattle.ws_types.specs.Kinds.{when}
 use Rattle.ws_types.specs.Names.{standing_of, name_type, name_faults, is_constant, is_active, target_faults}
 use Rattle.ws_types.specs.Expressions.{how_many, named_faults, subs_faults}
 use Rattle.ws_types.specs.Operations.{is_other_number, part_faults}
+use Rattle.ws_sema.proofs.NoFaults.{none_first, none_after, not_broken}
 use Rattle.hlfir_ops.specs.declared.kinds.ValueKind.{ValueKind}
 use Rattle.hlfir_ops.specs.declared.kinds.ValueKind.TheVariants as kind
 use Rattle.hlfir_ops.specs.RulesValues.{rank_of}
@@ -25,7 +26,6 @@ use Rattle.kind_laws.specs.Standing.{Knows, EntryIsKnown, NameIsKnown}
 use Rattle.kind_laws.proofs.TypedExpressions.{types_are_known}
 use Rattle.kind_laws.proofs.ExpressionsMade.{kinds_are_types}
 use Rattle.kind_laws.proofs.FormsMade.{some_subs}
-use Rattle.kind_laws.proofs.NoFaults.{none_first, none_after, not_broken}
 use Rattle.sound_laws.proofs.NamesSound.{part-variable}
 use Rattle.sound_laws.proofs.ExpressionsSound.{subscripts-sound}
 use Rattle.value_laws.specs.Sound.{IsSoundPart, AreSoundSubs}

@@ -14,6 +14,7 @@ use Rattle.ws_tree.specs.Grammatical.{IsPart}
 use Rattle.ws_types.specs.declared.types.Row.{Row}
 use Rattle.ws_types.specs.Names.{standing_of}
 use Rattle.ws_sema.specs.Statements.{is_other_bounds, allocation_faults, allocations_faults}
+use Rattle.ws_sema.proofs.NoFaults.{none_first, none_after, not_broken}
 use Rattle.array_meaning.specs.declared.world.World.{World}
 use Rattle.array_meaning.specs.Program as source
 use Rattle.array_meaning.specs.Program.{bound_dim, bound_dims, with_name}
@@ -32,7 +33,6 @@ use Rattle.lower_values.specs.Scopes.{Scope, inside}
 use Rattle.lower_values.specs.Lowerings.{scoped, statement_of, regions_from, holding}
 use Rattle.lower_values.specs.References.{declare_of}
 use Rattle.lower_assign.specs.Statements.{all_yielded, all_bounds, allocation}
-use Rattle.kind_laws.proofs.NoFaults.{none_first, none_after, not_broken}
 use Rattle.world_laws.specs.Worlds.{FitsNames}
 use Rattle.world_laws.specs.Meanings.{ListsMean}
 use Rattle.world_laws.proofs.Fitting.{FitsWhereDeclared, takes_state, state_fits}

@@ -9,6 +9,7 @@ use Rattle.ws_space.specs.Replace.{freed}
 use Rattle.ws_types.specs.declared.types.Row.{Row}
 use Rattle.ws_types.specs.Names.{standing_of}
 use Rattle.ws_sema.specs.Statements.{deallocation_faults, deallocations_faults}
+use Rattle.ws_sema.proofs.NoFaults.{none_first, none_after}
 use Rattle.array_meaning.specs.declared.world.World.{World}
 use Rattle.array_meaning.specs.Program as source
 use Rattle.array_meaning.specs.Program.{with_name}
@@ -23,7 +24,6 @@ use Rattle.lower_values.specs.Scopes.{Scope}
 use Rattle.lower_values.specs.Lowerings.{scoped, statement_of, holding}
 use Rattle.lower_values.specs.References.{declare_of}
 use Rattle.lower_assign.specs.Statements.{deallocation}
-use Rattle.kind_laws.proofs.NoFaults.{none_first, none_after}
 use Rattle.world_laws.specs.Worlds.{FitsNames}
 use Rattle.world_laws.proofs.Fitting.{FitsWhereDeclared, takes_state}
 use Rattle.run_laws.proofs.States.{freed-fits}

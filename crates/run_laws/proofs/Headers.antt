@@ -18,6 +18,7 @@ use Rattle.ws_types.specs.Expressions.{typed, faults}
 use Rattle.ws_types.specs.Operations.{scalar_faults}
 use Rattle.ws_types.specs.Lists.{given_faults}
 use Rattle.ws_sema.specs.Statements.{scalar_expr_faults, allocated_bound_faults, allocated_bounds_faults}
+use Rattle.ws_sema.proofs.NoFaults.{none_first, none_after, impossible}
 use Rattle.array_meaning.specs.declared.world.World.{World}
 use Rattle.array_meaning.specs.declared.term.Term.{Term}
 use Rattle.array_meaning.specs.Stage1 as source
@@ -32,7 +33,6 @@ use Rattle.hlfir_meaning.specs.Statements.{bounds, loop_steps, loop_triplet}
 use Rattle.lower_values.specs.Scopes.{Scope}
 use Rattle.lower_assign.specs.Statements.{all_yielded, all_bounds}
 use Rattle.lower_constructs.specs.Modules.{triple}
-use Rattle.kind_laws.proofs.NoFaults.{none_first, none_after, impossible}
 use Rattle.kind_laws.proofs.Sides.{sides_are_expressions}
 use Rattle.world_laws.specs.Yields.{region, scalars_of}
 use Rattle.world_laws.specs.Meanings.{StandsOutside, IsIntegerScalar, ListsMean}

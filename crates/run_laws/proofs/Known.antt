@@ -12,6 +12,7 @@ use Rattle.ws_types.specs.Names.{Name, standing_of, name_type, name_faults, is_n
 use Rattle.ws_types.specs.Operations.{scalar_faults, is_above}
 use Rattle.ws_sema.specs.declared.within.Within.{Within}
 use Rattle.ws_sema.specs.Statements.{is_other_bounds, allocatable_faults, variable_faults, loop_faults}
+use Rattle.ws_sema.proofs.NoFaults.{none_first, none_after, not_broken, not_false, impossible}
 use Rattle.hlfir_ops.specs.declared.kinds.Elem.{Elem}
 use Rattle.hlfir_ops.specs.declared.kinds.ValueKind.{ValueKind}
 use Rattle.hlfir_ops.specs.declared.kinds.ValueKind.TheVariants as kinds
@@ -20,7 +21,6 @@ use Rattle.lower_values.specs.declared.operand.Operand.{Operand}
 use Rattle.lower_values.specs.References.{variable_of, or_nothing}
 use Rattle.lower_values.specs.Scopes.{Scope}
 use Rattle.kind_laws.specs.Standing.{FitsEntry, EntryIsKnown, NameIsKnown, Knows}
-use Rattle.kind_laws.proofs.NoFaults.{none_first, none_after, not_broken, not_false, impossible}
 use Rattle.kind_laws.proofs.ScopesKnown.{entry_variable}
 use Rattle.small_laws.proofs.Tables.{AreFit, IsFit, standing_fit}
 use Rattle.kind_laws.proofs.TypesTold.{no_rank}

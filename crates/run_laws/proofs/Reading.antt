@@ -13,6 +13,7 @@ use Rattle.ws_tree.specs.declared.expr.Expr.{Expr}
 use Rattle.ws_tree.specs.Grammatical.{IsDesignator}
 use Rattle.ws_types.specs.declared.types.Row.{Row}
 use Rattle.ws_sema.specs.Statements.{item_faults, items_faults}
+use Rattle.ws_sema.proofs.NoFaults.{none_first, none_after}
 use Rattle.array_meaning.specs.declared.world.World.{World}
 use Rattle.array_meaning.specs.Assign as assigned
 use Rattle.array_meaning.specs.Assign.{target_name}
@@ -31,7 +32,6 @@ use Rattle.lower_values.specs.declared.names.Names.{Names}
 use Rattle.lower_values.specs.Scopes.{Scope, inside}
 use Rattle.lower_values.specs.Lowerings.{statement_of, regions_from, holding}
 use Rattle.lower_assign.specs.Statements.{yielded, left_of, reading}
-use Rattle.kind_laws.proofs.NoFaults.{none_first, none_after}
 use Rattle.world_laws.specs.Worlds.{FitsNames}
 use Rattle.world_laws.specs.Yields.{region, IsOfName, left_target, Reaches}
 use Rattle.world_laws.specs.Meanings.{LeftsMean}

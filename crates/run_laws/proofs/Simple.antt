@@ -11,6 +11,7 @@ use Rattle.ws_tree.specs.Grammatical.{IsBody, AreStmts}
 use Rattle.ws_types.specs.declared.types.Row.{Row}
 use Rattle.ws_sema.specs.declared.within.Within.TheVariants as within
 use Rattle.ws_sema.specs.Statements.{serial_faults, block_faults, body_faults}
+use Rattle.ws_sema.proofs.NoFaults.{none_first, none_after, impossible}
 use Rattle.array_meaning.specs.declared.world.World.{World}
 use Rattle.array_meaning.specs.Program as program
 use Rattle.hlfir_ops.specs.declared.what.What.{What}
@@ -23,7 +24,6 @@ use Rattle.lower_values.specs.declared.names.Names.{Names}
 use Rattle.lower_values.specs.Scopes.{Scope}
 use Rattle.lower_values.specs.Lowerings.{done, ◌>>=◌ as ◌then◌}
 use Rattle.lower_constructs.specs.Modules.{statement, statements}
-use Rattle.kind_laws.proofs.NoFaults.{none_first, none_after, impossible}
 use Rattle.world_laws.specs.Worlds.{FitsNames}
 use Rattle.world_laws.specs.Meanings.{IsSimple, LeavesWorld, MeansStatement, SimplesMean}
 use Rattle.world_laws.proofs.Leaving.{leaves_then}

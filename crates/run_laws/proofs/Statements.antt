@@ -18,6 +18,7 @@ use Rattle.ws_tree.specs.Grammatical.Within.{anywhere, in_where, in_forall}
 use Rattle.ws_types.specs.declared.types.Row.{Row}
 use Rattle.ws_sema.specs.declared.within.Within.{Within}
 use Rattle.ws_sema.specs.Statements.{is_masked, allocations_faults, deallocations_faults, items_faults, with_active, block_faults, body_faults, stmts_faults}
+use Rattle.ws_sema.proofs.Grammar.{loop_parts, shared_parts}
 use Rattle.array_meaning.specs.declared.world.Source.{Source}
 use Rattle.array_meaning.specs.Program as program
 use Rattle.hlfir_ops.specs.Numbers.{numbers_of}
@@ -26,7 +27,6 @@ use Rattle.lower_values.specs.Scopes.{Scope}
 use Rattle.lower_values.specs.Lowerings.{Lowering, done, ◌>>=◌ as ◌then◌}
 use Rattle.lower_constructs.specs.Modules.{statement, statements, statement_list}
 use Rattle.small_laws.proofs.NoFaults.{none_first, none_after, impossible}
-use Rattle.kind_laws.proofs.Grammar.{loop_parts, shared_parts}
 use Rattle.kind_laws.proofs.Faultless.{loop_faultless, shared_faultless, allocate_faultless, deallocate_faultless, read_faultless, IsOuter}
 use Rattle.world_laws.specs.Meanings.{ListsMean, LeftsMean, SimplesMean}
 use Rattle.run_laws.proofs.InOrder.{same-then}

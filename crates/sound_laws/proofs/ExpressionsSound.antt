@@ -18,13 +18,13 @@ use Rattle.ws_types.specs.Kinds.{when}
 use Rattle.ws_types.specs.Names.{Name, standing_of, name_type, name_faults, is_no_allocatable}
 use Rattle.ws_types.specs.Expressions.{listed, how_many, first_standing, named_faults, called_faults, typed, arguments, faults, all_faults, subs_faults, sub_faults, given_faults}
 use Rattle.ws_types.specs.Operations.{is_other_type, is_above, is_other_number, is_outside_type, unary_faults, scalar_faults, binary_faults, subscript_faults, part_faults, no_arguments, with_argument, item_limit, vector_faults, takes, is_inquiry, is_allocated_word, has_wide_dimension, call_faults, inquiry_faults}
+use Rattle.ws_sema.proofs.NoFaults.{none_first, none_after, not_broken, left_false, right_false}
 use Rattle.hlfir_ops.specs.RulesValues.{rank_of}
 use Rattle.lower_values.specs.References.{first_name}
 use Rattle.lower_values.specs.Scopes.{Scope, index_of}
 use Rattle.lower_values.specs.Values.{value}
 use Rattle.kind_laws.specs.Standing.{Knows}
 use Rattle.kind_laws.specs.Laws.{TypesAreKnown, KindsAreTypes}
-use Rattle.kind_laws.proofs.NoFaults.{none_first, none_after, not_broken, left_false, right_false}
 use Rattle.kind_laws.proofs.FormsMade.{some_subs}
 use Rattle.value_laws.specs.Sound.{IsVariable, IsItem, AreItems, IsSoundCall, IsSound, AreSound, AreSoundSubs, IsSoundGiven}
 use Rattle.sound_laws.proofs.NamesSound.{name-valued, part-variable, inquired-variable}

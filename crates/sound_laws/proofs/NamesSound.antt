@@ -13,6 +13,7 @@ use Rattle.ws_types.specs.Kinds.{when}
 use Rattle.ws_types.specs.Names.{Name, name_type, name_faults, is_no_allocatable}
 use Rattle.ws_types.specs.Constants.{constant_of, has_no_value}
 use Rattle.ws_types.specs.Operations.{is_other_number, is_outside, is_outside_type}
+use Rattle.ws_sema.proofs.NoFaults.{none_first, none_after, not_broken}
 use Rattle.hlfir_ops.specs.declared.kinds.ValueKind.{ValueKind}
 use Rattle.hlfir_ops.specs.declared.kinds.ValueKind.TheVariants as kind
 use Rattle.hlfir_ops.specs.declared.op.ValueId.{ValueId}
@@ -21,7 +22,6 @@ use Rattle.lower_values.specs.declared.operand.Operand.{Operand}
 use Rattle.lower_values.specs.References.{variable_of}
 use Rattle.lower_values.specs.Scopes.{Scope, index_of}
 use Rattle.kind_laws.specs.Standing.{FitsEntry, ConstantIsKnown, EntryIsKnown, NameIsKnown}
-use Rattle.kind_laws.proofs.NoFaults.{none_first, none_after, not_broken}
 
 -- ---- names
 

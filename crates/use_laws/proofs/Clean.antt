@@ -20,7 +20,7 @@ use Rattle.ws_types.specs.Names.{Name, standing_of, name_type, name_faults, is_c
 use Rattle.ws_types.specs.Operations.{is_other_number, part_faults, is_inquiry, takes, call_faults, is_allocated_word, is_outside, is_outside_type, inquiry_faults}
 use Rattle.ws_types.specs.Expressions.{how_many, named_type, first_standing, named_faults, called_faults}
 use Rattle.ws_sema.specs.Statements.{variable_faults, loop_faults, allocatable_faults}
-use Rattle.kind_laws.proofs.NoFaults.{none_first, none_after, broken}
+use Rattle.ws_sema.proofs.NoFaults.{none_first, none_after, broken}
 use Rattle.kind_laws.proofs.ScalarRanks.{outside_zero}
 use Rattle.use_laws.proofs.Standing.{IsNoVariable, HasNoVariables}
 

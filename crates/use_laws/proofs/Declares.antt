@@ -12,6 +12,7 @@ use Rattle.ws_types.specs.declared.constant.Constant.{Constant}
 use Rattle.ws_types.specs.declared.types.Standing.{Standing}
 use Rattle.ws_types.specs.Names.{Name, standing_of}
 use Rattle.ws_sema.specs.Declarations.{is_some, is_empty, is_left_out, shape_faults, with_constant, decls_faults, row_of, table_of}
+use Rattle.ws_sema.proofs.NoFaults.{none_first, none_after, not_broken}
 use Rattle.hlfir_ops.specs.declared.kinds.Elem.{Elem}
 use Rattle.hlfir_ops.specs.declared.what.What.TheVariants as what
 use Rattle.hlfir_ops.specs.declared.op.Op.{Op, Op-F, out-roll-Op}
@@ -20,12 +21,11 @@ use Rattle.hlfir_ops.specs.Numbers.{op_numbers, numbers_of, op_kinds, kinds_of}
 use Rattle.hlfir_ops.specs.RulesValues.{is_expression}
 use Rattle.hlfir_ops.specs.RulesPlaces.{from_number, own_defined}
 use Rattle.hlfir_ops.proofs.Numbered.{op_numbers-op_of}
-use Rattle.kind_laws.proofs.Sited.{defined_by}
+use Rattle.hlfir_ops.proofs.Sites.{defined_by}
 use Rattle.lower_values.specs.declared.names.Variable.{Variable}
 use Rattle.lower_assign.specs.Known.{declared_kind, variable_kind, declares_variable, if_variable, variable_decls, numbered}
 use Rattle.use_laws.proofs.Counting.{hit, hit-other, IsArrayAt}
 use Rattle.use_laws.proofs.Defined.{In}
-use Rattle.kind_laws.proofs.NoFaults.{none_first, none_after, not_broken}
 use Rattle.kind_laws.proofs.DeclaresFound.{declare_op}
 use Rattle.use_laws.proofs.Uses.{Uses, uses-none, uses-append, uses-op, inner-none, op_kinds-is}
 use Rattle.use_laws.proofs.Standing.{IsNoVariable, HasNoVariables, IsFreeVariable}

@@ -17,8 +17,8 @@ use Rattle.ws_types.specs.Expressions.{faults}
 use Rattle.ws_sema.specs.declared.within.Within.{Within}
 use Rattle.ws_sema.specs.declared.within.Within.TheVariants as within
 use Rattle.ws_sema.specs.Statements.{header_faults, under, mask_rank, else_control, body_faults, block_faults, elses_faults}
-use Rattle.kind_laws.proofs.NoFaults.{none_first, none_after}
-use Rattle.kind_laws.proofs.Grammar.{where_parts, forall_parts, shared_parts, no_else}
+use Rattle.ws_sema.proofs.NoFaults.{none_first, none_after}
+use Rattle.ws_sema.proofs.Grammar.{where_parts, forall_parts, shared_parts, no_else}
 use Rattle.kind_laws.proofs.Sides.{sides_are_expressions}
 use Rattle.kind_laws.proofs.Faultless.{where_faultless, forall_faultless, loop_faultless, shared_faultless}
 use Rattle.use_laws.proofs.Standing.{HasNoVariables}

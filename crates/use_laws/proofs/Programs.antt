@@ -13,10 +13,11 @@ use Rattle.ws_sema.specs.declared.within.Within.TheVariants.{Outside}
 use Rattle.ws_sema.specs.Checks.{IsAccepted}
 use Rattle.ws_sema.specs.Declarations.{table_of, constants_after}
 use Rattle.ws_sema.specs.Statements.{stmts_faults}
+use Rattle.ws_sema.proofs.NoFaults.{none_first, none_after}
 use Rattle.hlfir_ops.specs.declared.op.Op.{Op}
 use Rattle.hlfir_ops.specs.Numbers.{numbers_of, kinds_of}
 use Rattle.hlfir_ops.proofs.NumberedKinds.{kinds_of-append}
-use Rattle.kind_laws.proofs.Sited.{defined_by}
+use Rattle.hlfir_ops.proofs.Sites.{defined_by}
 use Rattle.lower_assign.specs.Known.{numbered, variable_decls, names_of}
 use Rattle.lower_values.specs.Scopes.{Scope, scope_at}
 use Rattle.lower_values.specs.Lowerings.{◌>>=◌}
@@ -24,7 +25,6 @@ use Rattle.lower_constructs.specs.Modules.{statement_list, lowered}
 use Rattle.use_laws.proofs.Counting.{IsArrayAt, array-first, array-rest}
 use Rattle.use_laws.proofs.Standing.{HasNoVariables, IsFree, IsFreeVariable, Stands}
 use Rattle.use_laws.proofs.Uses.{Uses, kinds_of-length, uses-append}
-use Rattle.kind_laws.proofs.NoFaults.{none_first, none_after}
 use Rattle.kind_laws.proofs.DeclaresFound.{declare_op, declares-ops}
 use Rattle.use_laws.proofs.Constructs.{IsRightStmt, region-list}
 use Rattle.use_laws.proofs.Declares.{declares-kinds, declares-use, numbered-plain, declared-free, no_variables}

@@ -18,6 +18,7 @@ use Rattle.ws_types.specs.Names.{standing_of}
 use Rattle.ws_types.specs.Expressions.{wide_faults}
 use Rattle.ws_sema.specs.declared.within.Within.{Within}
 use Rattle.ws_sema.specs.Statements.{is_inside, is_masked, left_faults, item_faults, assign_faults, allocation_faults, deallocation_faults, serial_faults, serial_parts, body_faults}
+use Rattle.ws_sema.proofs.NoFaults.{none_first, none_after, broken, looked_into}
 use Rattle.hlfir_ops.specs.declared.kinds.Elem.TheVariants.{I32}
 use Rattle.hlfir_ops.specs.declared.what.What.TheVariants as what
 use Rattle.hlfir_ops.specs.declared.op.ValueId.{ValueId}
@@ -36,7 +37,6 @@ use Rattle.use_laws.proofs.Holding.{IsRegion, lowers-statement}
 use Rattle.use_laws.proofs.Operations.{lowers-constant}
 use Rattle.use_laws.proofs.References.{lowers-boxed}
 use Rattle.use_laws.proofs.Values.{IsClean, numbers-append, part_of-lowers, lowers-value, lowers-subscripts}
-use Rattle.kind_laws.proofs.NoFaults.{none_first, none_after, broken, looked_into}
 use Rattle.use_laws.proofs.Clean.{no-target, no-allocatable}
 
 -- ---- in a source without variables there is nothing to assign or allocate

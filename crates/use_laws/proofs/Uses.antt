@@ -17,7 +17,7 @@ use Rattle.hlfir_ops.specs.Rules.{operand_numbers, are_defined}
 use Rattle.hlfir_ops.specs.RulesPlaces.{Around, Place, Site, around_in, from_number, op_sites, sites_of, sites_in}
 use Rattle.hlfir_ops.proofs.NumberedKinds.{op_kinds-parts, op_kinds-length, kinds_of-append}
 use Rattle.hlfir_ops.proofs.Order.{op_order-parts, order_of-append}
-use Rattle.kind_laws.proofs.Sited.{op_sites-parts, defined_by, sites_of-append}
+use Rattle.hlfir_ops.proofs.Sites.{op_sites-parts, defined_by, sites_of-append}
 use Rattle.use_laws.proofs.Counting.{hits, hits-append, given, given-append}
 use Rattle.use_laws.proofs.Defined.{AllIn, numbers, in-are_defined}
 

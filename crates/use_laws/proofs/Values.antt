@@ -20,6 +20,7 @@ use Rattle.ws_types.specs.declared.types.Row.{Row}
 use Rattle.ws_types.specs.Constants as constants
 use Rattle.ws_types.specs.Operations.{no_arguments, is_inquiry}
 use Rattle.ws_types.specs.Expressions.{listed, arguments, faults, all_faults, subs_faults, sub_faults, given_faults}
+use Rattle.ws_sema.proofs.NoFaults.{none_first, none_after}
 use Rattle.hlfir_ops.specs.declared.kinds.Elem.TheVariants.{I32, I1}
 use Rattle.hlfir_ops.specs.declared.what.BoundWord.TheVariants.{Lower, Upper}
 use Rattle.hlfir_ops.specs.declared.what.ValueBinary.{ValueBinary}
@@ -39,7 +40,6 @@ use Rattle.use_laws.proofs.Standing.{HasNoVariables, IsFree, Stands, stands-grow
 use Rattle.use_laws.proofs.Walking.{Lowers, of_operand, lowers-done, lowers-then, lowers-by, lowers-scoped}
 use Rattle.use_laws.proofs.Operations.{of_operands, lowers-constant, lowers-in_parentheses, lowers-unary_operation, lowers-binary_operation, lowers-call_on, lowers-vector}
 use Rattle.use_laws.proofs.References.{lowers-reference, lowers-loaded, lowers-named, lowers-bound, lowers-designated, lowers-inquiry}
-use Rattle.kind_laws.proofs.NoFaults.{none_first, none_after}
 use Rattle.kind_laws.proofs.FormsMade.{is_nesting}
 use Rattle.kind_laws.proofs.ExpressionsMade.{HasOne}
 use Rattle.use_laws.proofs.Clean.{no-part, no-inquiry, called-inquiry, called-parts}

@@ -10,7 +10,7 @@ use Rattle.hlfir_ops.specs.Trees.{op_of}
 use Rattle.hlfir_ops.specs.Numbers.{own_kinds, numbers_of, kinds_of, kinds_in}
 use Rattle.hlfir_ops.specs.RulesPlaces.{own_defined}
 use Rattle.hlfir_ops.proofs.NumberedKinds.{kinds_of-append}
-use Rattle.kind_laws.proofs.Sited.{defined_by, defined_by-append}
+use Rattle.hlfir_ops.proofs.Sites.{defined_by, defined_by-append}
 use Rattle.lower_values.specs.declared.operand.Operand.{Operand}
 use Rattle.lower_values.specs.Scopes.{Scope}
 use Rattle.lower_values.specs.Lowerings.{Lowering, done, ◌>>=◌, scoped, giving, acting}

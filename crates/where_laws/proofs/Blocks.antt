@@ -17,6 +17,8 @@ use Rattle.ws_types.specs.Expressions.{faults}
 use Rattle.ws_types.specs.Steps as source
 use Rattle.ws_sema.specs.declared.within.Within.TheVariants as within
 use Rattle.ws_sema.specs.Statements.{rank_of, block_faults, body_faults, elses_faults}
+use Rattle.ws_sema.proofs.NoFaults.{none_first, none_after, impossible}
+use Rattle.ws_sema.proofs.Grammar.{where_parts}
 use Rattle.hlfir_ops.specs.declared.what.What.TheVariants as what
 use Rattle.hlfir_ops.specs.declared.op.Op.{Op}
 use Rattle.hlfir_ops.specs.Trees.{op_of, region_of}
@@ -24,9 +26,7 @@ use Rattle.hlfir_ops.specs.Numbers.{op_numbers, numbers_of}
 use Rattle.lower_values.specs.Scopes.{Scope, inside}
 use Rattle.lower_values.specs.Lowerings.{done, ◌>>=◌}
 use Rattle.lower_constructs.specs.Modules.{statement, statements, elsewheres, elsewhere}
-use Rattle.kind_laws.proofs.NoFaults.{none_first, none_after, impossible}
 use Rattle.kind_laws.proofs.Sides.{sides_are_expressions}
-use Rattle.kind_laws.proofs.Grammar.{where_parts}
 use Rattle.kind_laws.proofs.Faultless.{where_faultless}
 use Rattle.world_laws.specs.Yields.{region}
 use Rattle.world_laws.specs.Meanings.{ValuesMean, LeftsMean}

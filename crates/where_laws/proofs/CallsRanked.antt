@@ -7,6 +7,7 @@ use Rattle.ws_base.specs.Numbers.{default_half, reduction}
 use Rattle.ws_types.specs.declared.types.Typed.{Typed}
 use Rattle.ws_types.specs.declared.types.Arguments.{Arguments}
 use Rattle.ws_types.specs.Operations.{differ, with_argument, no_arguments, is_reduction, has_wrong_type, has_wrong_rank, call_type}
+use Rattle.ws_sema.proofs.NoFaults.{left_false, right_false}
 use Rattle.array_meaning.specs.declared.term.Term.{Term}
 use Rattle.array_meaning.specs.declared.term.Term.TheVariants.{Scalar, Listed, Section', Unary', Binary', Call', Call}
 use Rattle.array_meaning.specs.Terms.{terms_open}
@@ -15,7 +16,6 @@ use Rattle.array_meaning.specs.Stage1.{with_scalar, scalars, elemental_on, calle
 use Rattle.array_meaning.proofs.Chains.{after_each}
 use Rattle.kind_laws.proofs.Arguments.{argued, not_mixed}
 use Rattle.kind_laws.proofs.TypeFacts.{same_type, chosen_type, not_chosen}
-use Rattle.kind_laws.proofs.NoFaults.{left_false, right_false}
 use Rattle.kind_laws.proofs.CallsMade.{call_result}
 use Rattle.where_laws.specs.Laws.{HaveRank}
 use Rattle.where_laws.proofs.Ranked.{HasRank, operands_ranked, lift, agree_first, agree_second}

@@ -13,6 +13,7 @@ use Rattle.ws_types.specs.Expressions.{faults}
 use Rattle.ws_types.specs.Steps as source
 use Rattle.ws_sema.specs.declared.within.Within.TheVariants as within
 use Rattle.ws_sema.specs.Statements.{left_faults, left_type, control_faults, body_faults}
+use Rattle.ws_sema.proofs.NoFaults.{none_first, none_after}
 use Rattle.hlfir_ops.specs.declared.what.What.{What}
 use Rattle.hlfir_ops.specs.declared.what.What.TheVariants as what
 use Rattle.hlfir_ops.specs.declared.op.Op.{Op}
@@ -24,7 +25,6 @@ use Rattle.lower_values.specs.Lowerings.{Lowering, ◌>>=◌, scoped, statement_
 use Rattle.lower_values.specs.Values.{value}
 use Rattle.lower_assign.specs.Statements.{yielded, left, assignment, is_whole_allocatable}
 use Rattle.lower_constructs.specs.Modules.{statement, statements, elsewheres, elsewhere, third}
-use Rattle.kind_laws.proofs.NoFaults.{none_first, none_after}
 use Rattle.kind_laws.proofs.Sides.{sides_are_expressions}
 use Rattle.world_laws.specs.Yields.{region}
 use Rattle.world_laws.specs.Meanings.{ValuesMean, LeftsMean}

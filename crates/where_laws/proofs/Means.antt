@@ -14,6 +14,8 @@ use Rattle.ws_types.specs.Expressions.{typed, faults}
 use Rattle.ws_sema.specs.declared.within.Within.{Within}
 use Rattle.ws_sema.specs.declared.within.Within.TheVariants as within
 use Rattle.ws_sema.specs.Statements.{rank_of, enclosing_rank, has_no_subscripts, is_inside, is_masked, left_faults, left_type, sides_faults, block_faults, elses_faults}
+use Rattle.ws_sema.proofs.NoFaults.{none_first, none_after}
+use Rattle.ws_sema.proofs.Grammar.{where_parts}
 use Rattle.array_meaning.specs.declared.world.World.{World}
 use Rattle.array_meaning.specs.Program as program
 use Rattle.array_meaning.specs.Where.{run_where}
@@ -31,9 +33,7 @@ use Rattle.lower_values.specs.Lowerings.{regions_from}
 use Rattle.lower_values.specs.Values.{value}
 use Rattle.lower_assign.specs.Statements.{yielded, left}
 use Rattle.lower_constructs.specs.Modules.{statement}
-use Rattle.kind_laws.proofs.NoFaults.{none_first, none_after}
 use Rattle.kind_laws.proofs.Sides.{sides_are_expressions}
-use Rattle.kind_laws.proofs.Grammar.{where_parts}
 use Rattle.kind_laws.proofs.Faultless.{where_faultless}
 use Rattle.world_laws.specs.Meanings.{StandsOutside, ValuesMean, LeftsMean, LeavesWorld, MeansStatement, SimpleMeans}
 use Rattle.world_laws.proofs.Fitting.{as_many}

@@ -17,6 +17,7 @@ use Rattle.ws_types.specs.Names.{standing_of, entry_type}
 use Rattle.ws_types.specs.Expressions.{typed, faults}
 use Rattle.ws_sema.specs.declared.within.Within.{Within}
 use Rattle.ws_sema.specs.Statements.{left_faults, left_type, sides_faults}
+use Rattle.ws_sema.proofs.NoFaults.{none_first, none_after}
 use Rattle.array_meaning.specs.declared.world.World.{World}
 use Rattle.array_meaning.specs.declared.term.Term.{Term}
 use Rattle.array_meaning.specs.Stage1.{walk}
@@ -30,7 +31,6 @@ use Rattle.hlfir_ops.specs.RulesValues.{is_allocatable, rank_of}
 use Rattle.lower_values.specs.References.{or_nothing}
 use Rattle.lower_values.specs.Scopes.{Scope}
 use Rattle.kind_laws.specs.Standing.{Knows, FitsEntry}
-use Rattle.kind_laws.proofs.NoFaults.{none_first, none_after}
 use Rattle.kind_laws.proofs.Sides as sides
 use Rattle.kind_laws.proofs.TypedExpressions.{types_are_known}
 use Rattle.world_laws.specs.Worlds.{FitsNames}

@@ -21,6 +21,7 @@ use Rattle.ws_types.specs.Expressions.{typed}
 use Rattle.ws_sema.specs.declared.within.Within.{Within}
 use Rattle.ws_sema.specs.declared.within.Within.TheVariants as within
 use Rattle.ws_sema.specs.Statements.{left_faults, left_type, control_faults, sides_faults, is_wrong_right, is_other_rank, is_inside}
+use Rattle.ws_sema.proofs.NoFaults.{none_first, none_after, not_broken, left_false}
 use Rattle.array_meaning.specs.declared.world.World.{World}
 use Rattle.array_meaning.specs.declared.term.Term.{Term}
 use Rattle.array_meaning.specs.Stage1.{allocated}
@@ -35,7 +36,6 @@ use Rattle.lower_values.specs.declared.operand.Operand.{Operand}
 use Rattle.lower_values.specs.References.{variable_of}
 use Rattle.lower_values.specs.Scopes.{Scope}
 use Rattle.kind_laws.specs.Standing.{Knows, FitsEntry, NameIsKnown}
-use Rattle.kind_laws.proofs.NoFaults.{none_first, none_after, not_broken, left_false}
 use Rattle.kind_laws.proofs.ScopesKnown.{entry_variable}
 use Rattle.kind_laws.proofs.Sides as sides
 use Rattle.world_laws.specs.Worlds.{FitsNames}

@@ -29,6 +29,7 @@ use Rattle.ws_types.specs.Sections.{is_designator}
 use Rattle.ws_types.specs.Operations.{differ, ranks_differ, with_subscript, binary_faults, is_other_number, part_faults, no_subscripts, no_arguments, item_limit, vector_type, takes, is_inquiry, is_allocated_word, is_outside_type, has_wide_dimension, inquired_type, inquiry_type, call_type}
 use Rattle.ws_types.specs.Expressions.{listed, how_many, number_limit, named_type, typed, faults, arguments, all_faults, subs_faults}
 use Rattle.ws_types.specs.Expressions as types
+use Rattle.ws_sema.proofs.NoFaults.{none_first, none_after, not_broken, not_false}
 use Rattle.array_meaning.specs.declared.world.World.{World}
 use Rattle.array_meaning.specs.declared.term.Term.{Term}
 use Rattle.array_meaning.specs.declared.term.Term.TheVariants.{Listed}
@@ -38,7 +39,6 @@ use Rattle.array_meaning.specs.Stage1.{allocated, picked, designator, unary_on, 
 use Rattle.array_meaning.proofs.Chains.{after_each, after_fact}
 use Rattle.lower_values.specs.Scopes.{Scope}
 use Rattle.kind_laws.specs.Standing.{Knows}
-use Rattle.kind_laws.proofs.NoFaults.{none_first, none_after, not_broken, not_false}
 use Rattle.kind_laws.proofs.TypesKnown.{name_known}
 use Rattle.kind_laws.proofs.TypedExpressions.{type_known}
 use Rattle.kind_laws.proofs.TypeFacts.{same_type, no_type, chosen_type, unary_operand, binary_result, part_result}

@@ -8,9 +8,9 @@ use Rattle.ws_types.specs.declared.types.Typed.{Typed}
 use Rattle.ws_types.specs.Expressions.{typed, faults}
 use Rattle.ws_sema.specs.declared.within.Within.TheVariants as within
 use Rattle.ws_sema.specs.Statements.{left_faults, left_type, control_faults, mask_faults, is_rank_0, is_other_rank}
+use Rattle.ws_sema.proofs.NoFaults.{none_after, not_broken, left_false}
 use Rattle.lower_values.specs.Scopes.{Scope}
 use Rattle.kind_laws.specs.Standing.{Knows}
-use Rattle.kind_laws.proofs.NoFaults.{none_after, not_broken, left_false}
 use Rattle.kind_laws.proofs.TypedExpressions.{types_are_known}
 use Rattle.where_laws.specs.Steps.{TakesWell}
 

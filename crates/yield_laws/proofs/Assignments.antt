@@ -7,6 +7,7 @@ use Rattle.ws_tree.specs.declared.expr.Expr.TheVariants.{Named}
 use Rattle.ws_types.specs.declared.types.Typed.{Typed}
 use Rattle.ws_sema.specs.declared.within.Within.{Within}
 use Rattle.ws_sema.specs.Statements.{is_inside, is_masked, types_differ, is_wrong_right, has_no_subscripts}
+use Rattle.ws_sema.proofs.NoFaults.{not_false}
 use Rattle.hlfir_ops.specs.declared.kinds.ValueKind.{ValueKind}
 use Rattle.hlfir_ops.specs.declared.what.What.TheVariants as what
 use Rattle.hlfir_ops.specs.declared.op.Op.{Op}
@@ -21,7 +22,6 @@ use Rattle.lower_values.specs.declared.operand.Operand.{Operand}
 use Rattle.lower_assign.specs.Known.{elem}
 use Rattle.lower_assign.specs.Statements.{left, is_whole_allocatable}
 use Rattle.yield_laws.proofs.Right.{IsRight, op-right}
-use Rattle.kind_laws.proofs.NoFaults.{not_false}
 use Rattle.kind_laws.proofs.Ends.{ops_in-first, ops_in-second}
 use Rattle.kind_laws.proofs.TypesTold.{same_elem-same, not_other}
 use Rattle.yield_laws.proofs.Regions.{no-regions, more-regions, region-reached}

@@ -16,6 +16,7 @@ use Rattle.ws_types.specs.Names.{standing_of}
 use Rattle.ws_types.specs.Tables.{barred}
 use Rattle.ws_sema.specs.declared.within.Within.{Within}
 use Rattle.ws_sema.specs.Statements.{scalar_expr_faults, scalar_mask_faults, forall_mask_faults, header_faults, loop_faults, else_mask_faults}
+use Rattle.ws_sema.proofs.NoFaults.{none_first, none_after, not_broken}
 use Rattle.hlfir_ops.specs.declared.kinds.Elem.TheVariants.{I1}
 use Rattle.hlfir_ops.specs.declared.what.What.{What}
 use Rattle.hlfir_ops.specs.declared.what.What.TheVariants as what
@@ -41,7 +42,6 @@ use Rattle.kind_laws.proofs.Sides.{sides_are_expressions}
 use Rattle.kind_laws.proofs.ScopesKnown.{header_known}
 use Rattle.kind_laws.proofs.ScopesFound.{inside_found, loop_variables_are_found}
 use Rattle.yield_laws.proofs.Right.{IsRight, AreRight, op-right}
-use Rattle.kind_laws.proofs.NoFaults.{none_first, none_after, not_broken}
 use Rattle.kind_laws.proofs.Ends.{ops_in-first}
 use Rattle.kind_laws.proofs.TypesTold.{not_other, no_rank}
 use Rattle.kind_laws.proofs.ScopesMoved.{moved, knows-moved, found-moved}

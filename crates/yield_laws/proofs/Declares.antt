@@ -9,6 +9,7 @@ use Rattle.ws_tree.specs.declared.expr.Expr.{Expr}
 use Rattle.ws_tree.specs.declared.stmt.Decl.{Decl}
 use Rattle.ws_types.specs.declared.constant.Constant.{Constant}
 use Rattle.ws_sema.specs.Declarations.{is_declared, heading_faults, decls_faults, with_constant}
+use Rattle.ws_sema.proofs.NoFaults.{none_first, none_after, not_broken, left_false, right_false}
 use Rattle.hlfir_ops.specs.declared.kinds.ValueKind.{ValueKind}
 use Rattle.hlfir_ops.specs.declared.what.What.TheVariants as what
 use Rattle.hlfir_ops.specs.declared.op.Op.{Op, Op-F, out-Op, out-roll-Op}
@@ -19,9 +20,8 @@ use Rattle.hlfir_ops.specs.RulesValues.{Value}
 use Rattle.hlfir_ops.specs.RulesPlaces.{Around, Place, Site, own_defined, sites_of, sites_in, op_sites}
 use Rattle.hlfir_ops.specs.RulesStatements.{is_declare, declares, is_named, declares_name, declares_first, may_take_allocatable, no_allocatable, yields_no_allocatable, regions_judged}
 use Rattle.hlfir_ops.specs.Rules.{yields_of, sides_of, realloc_of, declares_fit}
+use Rattle.hlfir_ops.proofs.Sites.{op_sites-parts}
 use Rattle.lower_assign.specs.Known.{declares_variable, if_variable, variable_decls, variable, numbered}
-use Rattle.kind_laws.proofs.Sited.{op_sites-parts}
-use Rattle.kind_laws.proofs.NoFaults.{none_first, none_after, not_broken, left_false, right_false}
 use Rattle.yield_laws.proofs.Right.{Keeps}
 use Rattle.kind_laws.proofs.DeclaresFound.{declare_op}
 use Rattle.kind_laws.proofs.ConstantsKnown.{declared_more}

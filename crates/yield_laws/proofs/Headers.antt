@@ -15,6 +15,7 @@ use Rattle.ws_types.specs.declared.types.Row.{Row}
 use Rattle.ws_types.specs.Lists.{given_faults}
 use Rattle.ws_types.specs.Operations.{scalar_faults}
 use Rattle.ws_sema.specs.Statements.{scalar_expr_faults, header_faults, allocated_bound_faults, allocated_bounds_faults}
+use Rattle.ws_sema.proofs.NoFaults.{none_first, none_after, impossible}
 use Rattle.hlfir_ops.specs.declared.kinds.Elem.TheVariants.{I32}
 use Rattle.hlfir_ops.specs.declared.op.ValueId.{ValueId}
 use Rattle.hlfir_ops.specs.RulesValues.{Value, is_scalar}
@@ -32,7 +33,6 @@ use Rattle.kind_laws.specs.Standing.{Knows}
 use Rattle.kind_laws.specs.Found.{ScopeIsFound}
 use Rattle.kind_laws.proofs.TypedExpressions.{types_are_known}
 use Rattle.kind_laws.proofs.Sides.{sides_are_expressions}
-use Rattle.kind_laws.proofs.NoFaults.{none_first, none_after, impossible}
 use Rattle.yield_laws.proofs.Usable.{IsUsable, IsValue, usable-reached, more-reached, reached-append}
 use Rattle.yield_laws.proofs.Walking.{Walks, walks-done, walks-then}
 use Rattle.yield_laws.proofs.Elements.{kind-found}

@@ -16,6 +16,7 @@ use Rattle.ws_types.specs.Operations.{with_subscript, no_subscripts}
 use Rattle.ws_types.specs.Expressions.{typed, faults, subs_faults, wide_faults}
 use Rattle.ws_types.specs.Expressions as types
 use Rattle.ws_sema.specs.Statements.{has_vector}
+use Rattle.ws_sema.proofs.NoFaults.{none_first, none_after, left_false, right_false}
 use Rattle.hlfir_ops.specs.declared.what.What.TheVariants as what
 use Rattle.hlfir_ops.specs.RulesValues.{Value, Source, Declares, Other, is_allocatable, is_vector, value_at, elem_of, rank_of, is_vector_designate, has_vector_source}
 use Rattle.hlfir_ops.specs.RulesForms.{section_rank}
@@ -32,7 +33,6 @@ use Rattle.kind_laws.specs.Found.{Holds, ScopeIsFound, IsLeftOf}
 use Rattle.kind_laws.proofs.Made.{Makes, makes-done, makes-then, IsOf}
 use Rattle.kind_laws.proofs.TypedExpressions.{type_known}
 use Rattle.kind_laws.proofs.ExpressionsMade.{value_made}
-use Rattle.kind_laws.proofs.NoFaults.{none_first, none_after, left_false, right_false}
 use Rattle.kind_laws.proofs.Finding.{own_value}
 use Rattle.kind_laws.proofs.TypesTold.{not_above}
 use Rattle.yield_laws.proofs.Usable.{IsUsable, IsValue}

@@ -12,6 +12,7 @@ use Rattle.ws_types.specs.declared.types.Standing.TheVariants.{Declared}
 use Rattle.ws_types.specs.declared.types.Typed.{Typed}
 use Rattle.ws_types.specs.Names.{standing_of}
 use Rattle.ws_sema.specs.Statements.{left_faults, left_type}
+use Rattle.ws_sema.proofs.NoFaults.{none_first, none_after}
 use Rattle.hlfir_ops.specs.declared.kinds.ValueKind.{ValueKind}
 use Rattle.hlfir_ops.specs.declared.kinds.ValueKind.TheVariants as kind
 use Rattle.hlfir_ops.specs.RulesValues.{Value, Source, Declares, Designates, Other, is_declares, is_designates, is_allocatable, is_allocatable_declare}
@@ -23,7 +24,6 @@ use Rattle.lower_values.specs.References.{variable_of, or_nothing, declare_of, b
 use Rattle.lower_assign.specs.Statements.{whole_left, left_of, is_whole_allocatable}
 use Rattle.kind_laws.specs.Standing.{EntryIsKnown, NameIsKnown, Knows}
 use Rattle.kind_laws.specs.Found.{Holds, ScopeIsFound, IsLeftOf}
-use Rattle.kind_laws.proofs.NoFaults.{none_first, none_after}
 use Rattle.kind_laws.proofs.ScopesKnown.{entry_variable}
 use Rattle.kind_laws.proofs.Sides.{sides_are_expressions, IsTarget, target, lefts_are_found}
 use Rattle.yield_laws.proofs.Usable.{IsValue, is_solid}

@@ -7,21 +7,21 @@ use Rattle.ws_tree.specs.declared.stmt.Tree.{Tree}
 use Rattle.ws_sema.specs.declared.within.Within.TheVariants.{Outside}
 use Rattle.ws_sema.specs.Checks.{IsAccepted}
 use Rattle.ws_sema.specs.Declarations.{table_of, constants_after}
+use Rattle.ws_sema.proofs.NoFaults.{none_first, none_after}
 use Rattle.hlfir_ops.specs.declared.op.Op.{Op, out-Op}
 use Rattle.hlfir_ops.specs.Numbers.{numbers_of}
 use Rattle.hlfir_ops.specs.RulesValues.{Value, values_of}
 use Rattle.hlfir_ops.specs.RulesPlaces.{Site, sites_of, outermost, module_sites}
 use Rattle.hlfir_ops.specs.Rules.{facts_of, yields_of, sides_of, realloc_of, declares_fit}
+use Rattle.hlfir_ops.proofs.Sites.{sites_of-append, defined_by}
 use Rattle.lower_values.specs.Scopes.{Scope, scope_at}
 use Rattle.lower_assign.specs.Known.{names_of, variable_decls, numbered}
 use Rattle.lower_values.specs.Lowerings.{◌>>=◌, in_turn}
 use Rattle.lower_constructs.specs.Modules.{declaration, statement_list, lowered}
 use Rattle.lower_constructs.specs.Sites.{Test, passes, EveryOpPasses}
 use Rattle.kind_laws.specs.Found.{Holds, ScopeIsFound}
-use Rattle.kind_laws.proofs.Sited.{sites_of-append, defined_by}
 use Rattle.kind_laws.proofs.NamesKnown.{names_are_known}
 use Rattle.yield_laws.specs.Laws.{YieldsAreOfTheirForms, SidesAgree, ReallocsAreOfWholes, DeclaresFit}
-use Rattle.kind_laws.proofs.NoFaults.{none_first, none_after}
 use Rattle.yield_laws.proofs.Right.{Keeps, sites-right}
 use Rattle.kind_laws.proofs.Finding.{holds_first, holds_after}
 use Rattle.kind_laws.proofs.DeclaresFound.{declare_op, declares-ops, outermost_found}

@@ -11,6 +11,7 @@ use Rattle.ws_types.specs.declared.types.Standing.{Standing}
 use Rattle.ws_types.specs.declared.types.Standing.TheVariants.{Declared, Active, Index, Barred}
 use Rattle.ws_types.specs.Names.{Name, name_type, entry_type, integer, is_undeclared, is_barred, name_faults}
 use Rattle.ws_types.specs.Operations.{is_above}
+use Rattle.ws_sema.proofs.NoFaults.{none_first, none_after, not_broken}
 use Rattle.hlfir_ops.specs.declared.kinds.Elem.TheVariants.{I32, I1}
 use Rattle.hlfir_ops.specs.declared.kinds.ValueKind.{ValueKind}
 use Rattle.hlfir_ops.specs.declared.kinds.ValueKind.TheVariants as kind
@@ -25,7 +26,6 @@ use Rattle.lower_values.specs.References.{variable_of, or_nothing, declare_of, b
 use Rattle.lower_values.specs.Values.{constant_or, folded}
 use Rattle.kind_laws.specs.Standing.{FitsEntry, EntryIsKnown, NameIsKnown}
 use Rattle.kind_laws.specs.Found.{Found, ScopeIsFound}
-use Rattle.kind_laws.proofs.NoFaults.{none_first, none_after, not_broken}
 use Rattle.kind_laws.proofs.FormsFound.{declare_found, index_found}
 use Rattle.yield_laws.proofs.Usable.{IsUsable, IsValue, is_solid, usable-reached, more-reached}
 use Rattle.yield_laws.proofs.Walking.{Walks, walks-done, walks-then, walks-scoped, walks-value}

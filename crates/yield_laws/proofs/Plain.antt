@@ -13,6 +13,7 @@ use Rattle.ws_types.specs.declared.types.Typed.{Typed}
 use Rattle.ws_types.specs.Expressions.{typed, faults}
 use Rattle.ws_sema.specs.declared.within.Within.{Within}
 use Rattle.ws_sema.specs.Statements.{is_inside, left_faults, left_type, types_differ, is_wrong_right, has_no_subscripts, sides_faults, assign_faults, item_faults, items_faults, allocation_faults, allocations_faults}
+use Rattle.ws_sema.proofs.NoFaults.{none_first, none_after, not_broken, left_false, right_false}
 use Rattle.hlfir_ops.specs.declared.what.What.TheVariants as what
 use Rattle.hlfir_ops.specs.declared.op.Op.{Op}
 use Rattle.hlfir_ops.specs.declared.op.ValueId.{ValueId}
@@ -32,7 +33,6 @@ use Rattle.kind_laws.specs.Found.{ScopeIsFound}
 use Rattle.kind_laws.proofs.TypedExpressions.{types_are_known}
 use Rattle.kind_laws.proofs.Sides.{sides_are_expressions}
 use Rattle.yield_laws.proofs.Right.{IsRight, op-right}
-use Rattle.kind_laws.proofs.NoFaults.{none_first, none_after, not_broken, left_false, right_false}
 use Rattle.kind_laws.proofs.Ends.{ops_in-first}
 use Rattle.kind_laws.proofs.Faultless.{each_faultless}
 use Rattle.kind_laws.proofs.ScopesMoved.{knows-moved, found-moved}

@@ -15,7 +15,7 @@ use Rattle.hlfir_ops.specs.RulesValues.{Value}
 use Rattle.hlfir_ops.specs.RulesPlaces.{Around, Place, Site, masks, around_in, from_number, own_defined, op_sites, sites_of, sites_in}
 use Rattle.hlfir_ops.specs.RulesStatements.{is_declare, declares_first, may_take_allocatable, no_allocatable, yields_no_allocatable, regions_judged}
 use Rattle.hlfir_ops.specs.Rules.{yields_of, sides_of, realloc_of, declares_fit}
-use Rattle.kind_laws.proofs.Sited.{op_sites-parts}
+use Rattle.hlfir_ops.proofs.Sites.{op_sites-parts}
 
 -- ---- one op at its place
 

@@ -19,6 +19,8 @@ use Rattle.ws_types.specs.Tables.{inner}
 use Rattle.ws_sema.specs.declared.within.Within.{Within}
 use Rattle.ws_sema.specs.declared.within.Within.TheVariants as within
 use Rattle.ws_sema.specs.Statements.{is_inside, is_masked, is_outside, under, mask_rank, else_control, with_active, block_faults, body_faults, elses_faults, stmts_faults}
+use Rattle.ws_sema.proofs.NoFaults.{none_first, none_after, impossible}
+use Rattle.ws_sema.proofs.Grammar.{no_else, where_parts, forall_parts, loop_parts, shared_parts, allocated_parts, read_parts}
 use Rattle.hlfir_ops.specs.declared.what.What.TheVariants as what
 use Rattle.hlfir_ops.specs.RulesValues.{Value}
 use Rattle.lower_values.specs.Scopes.{Scope, inside}
@@ -27,11 +29,9 @@ use Rattle.lower_constructs.specs.Modules.{forall_mask, elsewhere, statement, st
 use Rattle.kind_laws.specs.Standing.{Knows}
 use Rattle.kind_laws.specs.Found.{ScopeIsFound}
 use Rattle.kind_laws.proofs.ScopesKnown.{forall_known, loop_known}
-use Rattle.kind_laws.proofs.NoFaults.{none_first, none_after, impossible}
 use Rattle.yield_laws.proofs.Scopes.{IsWithin}
 use Rattle.yield_laws.proofs.Holders.{Statement, after, no-statement}
 use Rattle.yield_laws.proofs.Plain.{walks-assignment, walks-allocations, walks-deallocations, walks-readings}
-use Rattle.kind_laws.proofs.Grammar.{no_else, where_parts, forall_parts, loop_parts, shared_parts, allocated_parts, read_parts}
 use Rattle.kind_laws.proofs.Faultless.{where_faultless, else_faultless, forall_faultless, loop_faultless, shared_faultless, allocate_faultless, read_faultless, IsOuter}
 use Rattle.kind_laws.proofs.ScopesMoved.{moved, knows-moved, found-moved}
 use Rattle.yield_laws.proofs.Constructs.{walks-where, walks-shared, walks-elsewhere, walks-loop, walks-test, walks-forall}

@@ -18,6 +18,7 @@ use Rattle.ws_types.specs.declared.types.Typed.{Typed}
 use Rattle.ws_types.specs.Names.{standing_of, name_type, name_faults}
 use Rattle.ws_types.specs.Operations.{is_other_number, part_faults, is_allocated_word, is_outside, is_outside_type, inquiry_faults, no_arguments}
 use Rattle.ws_types.specs.Expressions.{listed, how_many, faults, all_faults, subs_faults, given_faults, first_standing, called_faults, arguments}
+use Rattle.ws_sema.proofs.NoFaults.{allowed, not_false, none_first, none_after, not_broken, left_false, right_false}
 use Rattle.hlfir_ops.specs.declared.kinds.Elem.{Elem}
 use Rattle.hlfir_ops.specs.declared.kinds.Elem.TheVariants.{I32, I1}
 use Rattle.hlfir_ops.specs.declared.kinds.ValueKind.TheVariants.{Scalar, Place, Section}
@@ -39,7 +40,6 @@ use Rattle.lower_values.specs.References.{declare_of, reference, loaded, named, 
 use Rattle.lower_values.specs.Values.{part_of, called, value, values, nested, subscripts, subscript, given_or}
 use Rattle.kind_laws.specs.Standing.{Knows}
 use Rattle.kind_laws.specs.Found.{ScopeIsFound}
-use Rattle.kind_laws.proofs.NoFaults.{allowed, not_false, none_first, none_after, not_broken, left_false, right_false}
 use Rattle.yield_laws.proofs.Usable.{IsUsable, IsValue, is_solid, usable-reached, more-reached, reached-append}
 use Rattle.yield_laws.proofs.Walking.{Walks, walks-done, walks-then, walks-scoped, walks-value, walks-if}
 use Rattle.yield_laws.proofs.Operations.{walks-constant, walks-binary, walks-parentheses, walks-unary, walks-vector, walks-call, solid_rank}
