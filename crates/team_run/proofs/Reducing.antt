@@ -195,7 +195,7 @@ after_room k n chunk m room = lay_length m (phase_effects (part k n) m chunk) �
 
 reduced_free : (k : CallWord) (n from : ℕ) (m : Cells) → n ≤ 65536 → from ≤ 1 → TakesIntegers k → IsNumbered n from m → FreeList (reduced k n) m
 reduced_free k n from m few low takes_all numbers = record {
-  joins = (tt, (refl, refl, refl, refl, refl), tt);
+  joins = (tt, ((refl, refl, refl, refl, refl), tt));
   phases = λ chunk is. let room = after_room k n chunk m numbers.room in (
     λ c ci. (part_apart k n from m few low takes_all numbers c ci, part_well k n from m few low takes_all numbers c ci),
     λ none. (
