@@ -2,3 +2,4 @@ pub mod Words
 pub mod Grammatical
 pub mod Opened
 pub mod Trees
+pub mod Calls

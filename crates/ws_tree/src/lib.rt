@@ -1,10 +1,12 @@
 //! The tree of a source.
 #![tactic(auto)]
 
+mod calls;
 mod expr;
 mod stmt;
 mod words;
 
+pub use calls::takes;
 pub use expr::{Expr, ExprList, Sub, SubList};
 pub use stmt::{
     Body, Bound, BoundList, Decl, DeclList, Else, ElseList, Index, IndexList, NameList, Part,

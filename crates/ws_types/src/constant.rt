@@ -65,7 +65,8 @@ fn with_sign(op: UnOp, value: i32) -> Result<i32, FaultName>
     }
 }
 
-fn signed(op: UnOp, operand: Constancy) -> Constancy
+/// A sign in front of a constant expression.
+pub fn signed(op: UnOp, operand: Constancy) -> Constancy
     requires { IsTrue (constants.is_sign op) }
     ensures { result ≡ constants.signed op operand }
 {
@@ -87,7 +88,8 @@ fn operated(op: BinOp, a: i32, b: i32) -> Result<i32, FaultName>
     }
 }
 
-fn joined(op: BinOp, a: Constancy, b: Constancy) -> Constancy
+/// An operator between constant expressions.
+pub fn joined(op: BinOp, a: Constancy, b: Constancy) -> Constancy
     requires { IsTrue (constants.is_arithmetic op) }
     ensures { result ≡ constants.joined op a b }
 {
@@ -99,7 +101,8 @@ fn joined(op: BinOp, a: Constancy, b: Constancy) -> Constancy
     }
 }
 
-fn is_sign(op: UnOp) -> bool
+/// An operator in front of an operand of constant expressions.
+pub fn is_sign(op: UnOp) -> bool
     ensures { result ≡ constants.is_sign op }
 {
     match op {
@@ -108,7 +111,8 @@ fn is_sign(op: UnOp) -> bool
     }
 }
 
-fn is_arithmetic(op: BinOp) -> bool
+/// An operator between operands of constant expressions.
+pub fn is_arithmetic(op: BinOp) -> bool
     ensures { result ≡ constants.is_arithmetic op }
 {
     match op {
