@@ -1,4 +1,5 @@
 pub mod Numbers
 pub mod Outcomes
+pub mod Sorts
 pub mod Words
 pub mod Laws

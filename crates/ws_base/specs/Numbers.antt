@@ -92,15 +92,35 @@ abbrev pub greatest : ℤ → List ℤ → ℤ
 greatest a [] = a
 greatest a (b ∷ more) = greatest (int_max a b) more
 
--- an elemental call on the values of its arguments
+-- what stands for a value where a word has none
+abbrev pub no_value : Exact
+no_value = Ok (pos 0)
+
+-- an elemental call on the values of its arguments, of which there are as many as it takes
 abbrev pub call_value : ℕ → CallWord → List ℤ → Exact
 call_value half word.Abs (a ∷ []) = exact half (pos (unsigned_abs a))
+call_value half word.Abs _ = no_value
 call_value half word.Mod (a ∷ b ∷ []) = unless_zero half b (int_rem a b)
+call_value half word.Mod _ = no_value
 call_value half word.Modulo (a ∷ b ∷ []) = unless_zero half b (floor_rem a b)
+call_value half word.Modulo _ = no_value
 call_value half word.Min (a ∷ more) = Ok (least a more)
+call_value half word.Min [] = no_value
 call_value half word.Max (a ∷ more) = Ok (greatest a more)
+call_value half word.Max [] = no_value
 call_value half word.Merge (t ∷ f ∷ m ∷ []) = Ok (if is_true m then t else f)
-call_value half _ _ = Ok (pos 0)
+call_value half word.Merge _ = no_value
+call_value half word.Sum xs = no_value
+call_value half word.Product xs = no_value
+call_value half word.Minval xs = no_value
+call_value half word.Maxval xs = no_value
+call_value half word.Count xs = no_value
+call_value half word.Any xs = no_value
+call_value half word.All xs = no_value
+call_value half word.Size xs = no_value
+call_value half word.Lbound xs = no_value
+call_value half word.Ubound xs = no_value
+call_value half word.Allocated xs = no_value
 
 abbrev pub sum_of : List ℤ → ℤ
 sum_of [] = pos 0
@@ -123,4 +143,13 @@ reduction half word.Maxval xs = Ok (greatest (negsuc (half - 1)) xs)
 reduction half word.Count xs = Ok (pos (count_of xs))
 reduction half word.Any xs = Ok (truth (list_any is_true xs))
 reduction half word.All xs = Ok (truth (list_all is_true xs))
-reduction half _ xs = Ok (pos 0)
+reduction half word.Abs xs = no_value
+reduction half word.Mod xs = no_value
+reduction half word.Modulo xs = no_value
+reduction half word.Min xs = no_value
+reduction half word.Max xs = no_value
+reduction half word.Merge xs = no_value
+reduction half word.Size xs = no_value
+reduction half word.Lbound xs = no_value
+reduction half word.Ubound xs = no_value
+reduction half word.Allocated xs = no_value

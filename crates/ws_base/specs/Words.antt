@@ -5,54 +5,42 @@ use Rattle.ws_base.specs.declared.fault.FaultName.TheVariants as fault
 use Rattle.ws_base.specs.declared.refusal.RefusalKind.{RefusalKind}
 use Rattle.ws_base.specs.declared.refusal.RefusalKind.TheVariants as kind
 
+-- the word of a fault, and its number
+abbrev pub fault_row : FaultName → List ℕ × ℕ
+fault_row fault.Bounds = (codes "Bounds", 1)
+fault_row fault.Shape = (codes "Shape", 2)
+fault_row fault.Overflow = (codes "Overflow", 3)
+fault_row fault.DivideByZero = (codes "DivideByZero", 4)
+fault_row fault.ZeroStride = (codes "ZeroStride", 5)
+fault_row fault.ManyOne = (codes "ManyOne", 6)
+fault_row fault.Unallocated = (codes "Unallocated", 7)
+fault_row fault.Allocated = (codes "Allocated", 8)
+fault_row fault.TooLarge = (codes "TooLarge", 9)
+fault_row fault.DataEnd = (codes "DataEnd", 10)
+fault_row fault.DataBad = (codes "DataBad", 11)
+fault_row fault.Steps = (codes "Steps", 12)
+
 abbrev pub fault_name : FaultName → List ℕ
-fault_name fault.Bounds = codes "Bounds"
-fault_name fault.Shape = codes "Shape"
-fault_name fault.Overflow = codes "Overflow"
-fault_name fault.DivideByZero = codes "DivideByZero"
-fault_name fault.ZeroStride = codes "ZeroStride"
-fault_name fault.ManyOne = codes "ManyOne"
-fault_name fault.Unallocated = codes "Unallocated"
-fault_name fault.Allocated = codes "Allocated"
-fault_name fault.TooLarge = codes "TooLarge"
-fault_name fault.DataEnd = codes "DataEnd"
-fault_name fault.DataBad = codes "DataBad"
-fault_name fault.Steps = codes "Steps"
+fault_name f = (fault_row f).0
 
 abbrev pub fault_number : FaultName → ℕ
-fault_number fault.Bounds = 1
-fault_number fault.Shape = 2
-fault_number fault.Overflow = 3
-fault_number fault.DivideByZero = 4
-fault_number fault.ZeroStride = 5
-fault_number fault.ManyOne = 6
-fault_number fault.Unallocated = 7
-fault_number fault.Allocated = 8
-fault_number fault.TooLarge = 9
-fault_number fault.DataEnd = 10
-fault_number fault.DataBad = 11
-fault_number fault.Steps = 12
+fault_number f = (fault_row f).1
+
+-- the word of a kind of refusal, and its number
+abbrev pub kind_row : RefusalKind → List ℕ × ℕ
+kind_row kind.Syntax = (codes "Syntax", 1)
+kind_row kind.Unsupported = (codes "Unsupported", 2)
+kind_row kind.Undeclared = (codes "Undeclared", 3)
+kind_row kind.Redeclared = (codes "Redeclared", 4)
+kind_row kind.TypeWrong = (codes "TypeWrong", 5)
+kind_row kind.RankWrong = (codes "RankWrong", 6)
+kind_row kind.NotAllocatable = (codes "NotAllocatable", 7)
+kind_row kind.NotInWorkshare = (codes "NotInWorkshare", 8)
+kind_row kind.DoVariable = (codes "DoVariable", 9)
+kind_row kind.OverLimit = (codes "OverLimit", 10)
 
 abbrev pub kind_text : RefusalKind → List ℕ
-kind_text kind.Syntax = codes "Syntax"
-kind_text kind.Unsupported = codes "Unsupported"
-kind_text kind.Undeclared = codes "Undeclared"
-kind_text kind.Redeclared = codes "Redeclared"
-kind_text kind.TypeWrong = codes "TypeWrong"
-kind_text kind.RankWrong = codes "RankWrong"
-kind_text kind.NotAllocatable = codes "NotAllocatable"
-kind_text kind.NotInWorkshare = codes "NotInWorkshare"
-kind_text kind.DoVariable = codes "DoVariable"
-kind_text kind.OverLimit = codes "OverLimit"
+kind_text k = (kind_row k).0
 
 abbrev pub kind_number : RefusalKind → ℕ
-kind_number kind.Syntax = 1
-kind_number kind.Unsupported = 2
-kind_number kind.Undeclared = 3
-kind_number kind.Redeclared = 4
-kind_number kind.TypeWrong = 5
-kind_number kind.RankWrong = 6
-kind_number kind.NotAllocatable = 7
-kind_number kind.NotInWorkshare = 8
-kind_number kind.DoVariable = 9
-kind_number kind.OverLimit = 10
+kind_number k = (kind_row k).1

@@ -1,4 +1,5 @@
-//! What every stage of the compiler names: exact arithmetic, operators, faults, refusals and names.
+//! What every stage of the compiler names: exact arithmetic, operators, faults, refusals and names. Read specs/Numbers.antt
+//! first (what each operator, call and reduction gives).
 #![tactic(auto)]
 
 mod arith;
@@ -10,7 +11,9 @@ mod refusal;
 #[cfg(test)]
 mod tests;
 
-pub use arith::{abs32, add32, div32, mod32, modulo32, mul32, neg32, pow32, sub32};
+pub use arith::{
+    abs32, add32, div32, mod32, modulo32, mul32, neg32, pow32, reciprocal_power, sub32,
+};
 pub use fault::{Fault, FaultName, Trouble};
 pub use laws::{
     any_order_gives_the_same_values, each_item_has_its_own_value, modulo_has_the_divisors_sign,
