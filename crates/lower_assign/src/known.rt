@@ -1,7 +1,7 @@
 //! What the declarations of a source make known.
 
 ghost use Rattle.std.specs.Prelude.{◌≡◌, ◌++◌, IfOk, OnOk, map};
-ghost use Rattle.ws_space.specs.Shapes.{natural, declared_dim, shape_of};
+ghost use Rattle.ws_space.specs.Shapes.{natural, declared_dim};
 ghost use Rattle.lower_assign.specs.Known as known;
 
 use hlfir_ops::{Elem, ValueId, ValueKind};
@@ -10,7 +10,7 @@ use sqlite_items::Items;
 use std::alloc::{AllocError, Global};
 use ws_base::Name;
 use ws_sema::Checked;
-use ws_space::{Dim, Shape};
+use ws_space::{Dim, Shape, shape_from};
 use ws_tree::{Bound, Decl, Expr};
 use ws_types::{Constancy, Constant, evaluate};
 
@@ -78,37 +78,6 @@ fn bound_dims(
         dims.push(bound_dim(constants, bound))?;
     }
     Ok(dims)
-}
-
-fn shape_from(dims: &[Dim]) -> Shape
-    ensures { result ≡ shape_of dims.now }
-{
-    match dims {
-        [] => Shape {
-            rank: 0,
-            d1: UNUSED,
-            d2: UNUSED,
-            d3: UNUSED,
-        },
-        [a] => Shape {
-            rank: 1,
-            d1: *a,
-            d2: UNUSED,
-            d3: UNUSED,
-        },
-        [a, b] => Shape {
-            rank: 2,
-            d1: *a,
-            d2: *b,
-            d3: UNUSED,
-        },
-        [a, b, c, ..] => Shape {
-            rank: 3,
-            d1: *a,
-            d2: *b,
-            d3: *c,
-        },
-    }
 }
 
 fn declared_kind(elem: Elem, shape: Shape, bounds: &[Bound]) -> ValueKind

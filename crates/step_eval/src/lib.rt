@@ -25,6 +25,7 @@ pub use forall::run_forall;
 pub use halt::Halt;
 pub use header::stepping;
 pub use replace::store;
-pub use shaped::{dims_held, extents_of, kept, shape_from};
+pub use shaped::{dims_held, extents_of, kept};
 pub use vars::{is_logical, set_state};
 pub use where_construct::run_where;
+pub use ws_space::shape_from;

@@ -15,45 +15,8 @@ use sqlite_items::Items;
 use std::alloc::{AllocError, Global};
 use term_eval::{Extents, Stop, dims_of, state_of};
 use ws_base::{FaultName, Name};
-use ws_space::{ArrayValue, Dim, Shape, Var, VarState};
+use ws_space::{ArrayValue, Dim, Var, VarState, shape_from};
 use ws_tree::Expr;
-
-const UNUSED: Dim = Dim {
-    lower: 1,
-    extent: 1,
-};
-
-/// The shape with these dimensions, of which there are at most three.
-pub fn shape_from(dims: &[Dim]) -> Shape
-    ensures { result ≡ shapes.shape_of dims.now }
-{
-    match dims {
-        [] => Shape {
-            rank: 0,
-            d1: UNUSED,
-            d2: UNUSED,
-            d3: UNUSED,
-        },
-        [a] => Shape {
-            rank: 1,
-            d1: *a,
-            d2: UNUSED,
-            d3: UNUSED,
-        },
-        [a, b] => Shape {
-            rank: 2,
-            d1: *a,
-            d2: *b,
-            d3: UNUSED,
-        },
-        [a, b, c, ..] => Shape {
-            rank: 3,
-            d1: *a,
-            d2: *b,
-            d3: *c,
-        },
-    }
-}
 
 /// What a variable of these dimensions holds with these values. One of rank 0 is a scalar.
 #[tactic(auto, using(crate::proofs::KeptLimits::small_kept))]

@@ -16,6 +16,38 @@ const UNUSED: Dim = Dim {
     extent: 1,
 };
 
+/// The shape with these dimensions, of which there are at most three.
+pub fn shape_from(dims: &[Dim]) -> Shape
+    ensures { result ≡ shape_of dims.now }
+{
+    match dims {
+        [] => Shape {
+            rank: 0,
+            d1: UNUSED,
+            d2: UNUSED,
+            d3: UNUSED,
+        },
+        [a] => Shape {
+            rank: 1,
+            d1: *a,
+            d2: UNUSED,
+            d3: UNUSED,
+        },
+        [a, b] => Shape {
+            rank: 2,
+            d1: *a,
+            d2: *b,
+            d3: UNUSED,
+        },
+        [a, b, c, ..] => Shape {
+            rank: 3,
+            d1: *a,
+            d2: *b,
+            d3: *c,
+        },
+    }
+}
+
 /// The shape with lower bound 1 and extent 1 in each dimension past its rank.
 fn with_unused(shape: &Shape) -> Shape
     ensures { result ≡ shape_of (dims shape.now) }
