@@ -29,7 +29,7 @@ pub fn greatest(first: i64, more: &[i64]) -> i64
     greatest
 }
 
-/// An elemental call on the values of its arguments, and 0 for any other.
+/// An elemental call on the values of its arguments. Any other word, or number of arguments, gives 0.
 pub fn call_value(word: CallWord, values: &[i64]) -> Result<i64, FaultName>
     ensures { result ≡ numbers.call_value default_half word values.now }
 {

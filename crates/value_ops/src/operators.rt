@@ -1,11 +1,11 @@
 //! Operators on single values of default INTEGER and LOGICAL (Fortran 2018, 10.1.5).
 
-ghost use Rattle.std.specs.Prelude.{◌≡◌, ◌≢◌, ◌≤◌, ◌<ℤ◌, pos, int_div, int_rem};
+ghost use Rattle.std.specs.Prelude.{◌≡◌, ◌≢◌, ◌≤◌, pos, int_div, int_rem};
 ghost use Rattle.std.specs.Int.{int_pow};
 ghost use Rattle.ws_base.specs.Numbers as numbers;
 ghost use Rattle.ws_base.specs.Numbers.{default_half, exact, unless_zero, power};
 
-use ws_base::{BinOp, FaultName, UnOp};
+use ws_base::{BinOp, FaultName, UnOp, reciprocal_power};
 
 /// The number as a default integer. Overflow where it is out of range.
 pub fn in_kind(value: i128) -> Result<i64, FaultName>
@@ -84,23 +84,6 @@ pub fn modulo(a: i64, b: i64) -> Result<i64, FaultName>
     in_kind(i128::from(floor_remainder(a, b)))
 }
 
-/// The power, where the exponent is below zero: 1 over the power above it.
-fn reciprocal_power(a: i64, b: i64) -> Result<i64, FaultName>
-    requires { b <ℤ pos 0 }
-    ensures { result ≡ power default_half a b }
-{
-    let size = a.unsigned_abs();
-    if size == 0 {
-        Err(FaultName::DivideByZero)
-    } else if size > 1 {
-        Ok(0)
-    } else if b % 2 == 0 {
-        Ok(1)
-    } else {
-        Ok(a)
-    }
-}
-
 /// The power, where no base but 0, 1 and -1 has one in range.
 fn great_power(a: i64, exponent: u64) -> Result<i64, FaultName>
     requires { 32 ≤ exponent }
@@ -131,7 +114,8 @@ fn power_of(a: i64, b: i64) -> Result<i64, FaultName>
     ensures { result ≡ power default_half a b }
 {
     if b < 0 {
-        return reciprocal_power(a, b);
+        let value = reciprocal_power(a, b)?;
+        return Ok(i64::from(value));
     }
     let exponent = b.unsigned_abs();
     if exponent < 32 {
