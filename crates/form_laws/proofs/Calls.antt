@@ -8,7 +8,8 @@ use Rattle.ws_base.specs.declared.op.CallWord.TheVariants as word
 use Rattle.ws_tree.specs.declared.expr.Expr.{Expr}
 use Rattle.ws_types.specs.declared.types.Typed.{Typed}
 use Rattle.ws_types.specs.declared.types.Arguments.{Arguments}
-use Rattle.ws_types.specs.Operations.{differ, no_arguments, takes, is_inquiry, is_reduction, has_wrong_type, has_wrong_rank, is_other_type, call_faults}
+use Rattle.ws_tree.specs.Calls.{takes}
+use Rattle.ws_types.specs.Operations.{differ, no_arguments, is_inquiry, is_reduction, has_wrong_type, has_wrong_rank, is_other_type, call_faults}
 use Rattle.ws_sema.proofs.NoFaults.{none_first, none_after, not_broken, left_false, right_false}
 use Rattle.hlfir_ops.specs.declared.kinds.Elem.TheVariants.{I32, I1}
 use Rattle.hlfir_ops.specs.declared.kinds.ValueKind.{ValueKind}

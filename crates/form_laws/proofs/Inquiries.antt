@@ -11,7 +11,8 @@ use Rattle.ws_types.specs.declared.types.Row.{Row}
 use Rattle.ws_types.specs.declared.types.Standing.{Standing}
 use Rattle.ws_types.specs.declared.types.Standing.TheVariants.{Declared, Active, Index, Barred}
 use Rattle.ws_types.specs.Names.{Name, standing_of, name_type, name_faults, entry_type, integer, is_no_allocatable}
-use Rattle.ws_types.specs.Operations.{is_digits, is_one_name, is_with_dimension, takes, is_inquiry, is_allocated_word, is_outside, is_outside_type, has_wide_dimension, inquiry_faults}
+use Rattle.ws_tree.specs.Calls.{is_digits, is_one_name, is_with_dimension, takes}
+use Rattle.ws_types.specs.Operations.{is_inquiry, is_allocated_word, is_outside, is_outside_type, has_wide_dimension, inquiry_faults}
 use Rattle.ws_types.specs.Expressions.{first_standing}
 use Rattle.hlfir_ops.specs.declared.what.BoundWord.{BoundWord}
 use Rattle.hlfir_ops.specs.declared.what.BoundWord.TheVariants.{Extent}

@@ -14,7 +14,8 @@ use Rattle.ws_types.specs.declared.types.Row.{Row}
 use Rattle.ws_types.specs.declared.types.Arguments.{Arguments}
 use Rattle.ws_types.specs.declared.types.Subscripts.{Subscripts}
 use Rattle.ws_types.specs.Names.{Name, standing_of, integer, logical}
-use Rattle.ws_types.specs.Operations.{takes, is_inquiry, no_subscripts, part_faults, part_type, no_arguments, with_argument, call_type, vector_type}
+use Rattle.ws_tree.specs.Calls.{takes}
+use Rattle.ws_types.specs.Operations.{is_inquiry, no_subscripts, part_faults, part_type, no_arguments, with_argument, call_type, vector_type}
 use Rattle.ws_types.specs.Expressions.{listed, how_many, first_standing, number_limit, named_type, named_faults, typed, faults, arguments, all_faults, subs_faults, called_type, called_faults}
 use Rattle.ws_types.specs.Expressions as types
 use Rattle.ws_sema.proofs.NoFaults.{none_first, none_after}

@@ -18,7 +18,8 @@ use Rattle.ws_types.specs.declared.types.Row.{Row}
 use Rattle.ws_types.specs.declared.types.Arguments.{Arguments}
 use Rattle.ws_types.specs.declared.types.Subscripts.{Subscripts}
 use Rattle.ws_types.specs.Kinds.{when}
-use Rattle.ws_types.specs.Operations.{takes_truth, gives_truth, takes, is_inquiry, has_wrong_type, is_other_number, part_faults, with_subscript, with_argument}
+use Rattle.ws_tree.specs.Calls.{takes}
+use Rattle.ws_types.specs.Operations.{takes_truth, gives_truth, is_inquiry, has_wrong_type, is_other_number, part_faults, with_subscript, with_argument}
 use Rattle.ws_types.specs.Expressions.{listed, how_many, typed, arguments, all_faults}
 use Rattle.ws_sema.proofs.NoFaults.{none_first, none_after, not_broken, impossible, not_false}
 use Rattle.hlfir_ops.specs.declared.kinds.Elem.{Elem}
