@@ -1,4 +1,5 @@
-//! Values as text: the items that READ takes, and the report of a run's end.
+//! Values as text: the items that READ takes, and the report of a run's end. Read specs/Items.antt (where an item begins and ends)
+//! and specs/ReportText.antt first (the lines of a report).
 #![tactic(auto)]
 
 mod item;
