@@ -9,13 +9,14 @@ use Rattle.hlfir_ops.specs.declared.op.ValueId.{ValueId}
 use Rattle.hlfir_ops.specs.declared.op.Op.{Op, out-Op}
 use Rattle.hlfir_ops.specs.declared.op.Region.{Region}
 use Rattle.hlfir_ops.specs.declared.op.Module.{Module}
+use Rattle.hlfir_ops.specs.Sorts.{Body, NoBody, WhereBody, ForallBody, SharedBody, LoopBody, Yields, YieldsNothing, YieldsSides, YieldsValue, YieldsElseValue, YieldsHeader, YieldsTruth, YieldsTriplet, YieldsPairs, YieldsItem, YieldsElement, Controls, ControlsNothing, ControlsLeft, ControlsMask, ControlsElseMask, Limits, LimitsNothing, LimitsDeclares, LimitsItems, LimitsBodies, Counts, CountsNothing, CountsStatement, CountsStatements, CountsStep, sort_of}
 use Rattle.hlfir_ops.specs.Numbers.{order_of, order_in}
 use Rattle.hlfir_ops.specs.RulesValues.{Value, values_of, is_expression, is_allocatable_declare}
 use Rattle.hlfir_ops.specs.RulesPlaces.{Around, Place, Site, module_sites}
 use Rattle.hlfir_ops.specs.RulesRegions.{ops_in, parts_in, first_value, first_kind, yields_value, yields_target, yields_item, yields_truth, yields_header, yields_triplet, yields_pairs, yields_element}
 use Rattle.hlfir_ops.specs.RulesForms.{has_regions, is_filled_where, takes, gives}
 use Rattle.hlfir_ops.specs.RulesStatements.{stands_in_where, stands_in_workshare, stands_in_program, sides_agree, same_truth, are_elsewheres, mask_fits, fits_forall, follows, also_follows, declares_first, reaches_by_box}
-use Rattle.hlfir_ops.specs.RulesLimits.{declares_in, declare_limit, is_small, item_limit, has_body, body_limit, size_of, size_limit, statement_count, step_count, fits_count, phases_of, temporaries_of}
+use Rattle.hlfir_ops.specs.RulesLimits.{declares_in, declare_limit, is_small, item_limit, body_limit, size_of, size_limit, statement_count, step_count, fits_count, phases_of, temporaries_of}
 
 -- ---- what the rules ask of the whole module
 
@@ -57,17 +58,20 @@ is_used_once used number kind = not (is_expression kind) || count_by (λ n. n ==
 -- ---- 5 to 7: what regions yield
 
 -- A region that yields holds value ops, and ends with a yield of its form.
+abbrev pub yields_as : List Value → Yields → List Region → Bool
+yields_as vs YieldsNothing rs = true
+yields_as vs YieldsSides rs = yields_value vs (ops_in rs 0) && yields_target vs (ops_in rs 1)
+yields_as vs YieldsValue rs = yields_value vs (ops_in rs 0)
+yields_as vs YieldsElseValue rs = length rs == 1 || yields_value vs (ops_in rs 0)
+yields_as vs (YieldsHeader names) rs = yields_header vs names (ops_in rs 0)
+yields_as vs YieldsTruth rs = yields_truth vs (ops_in rs 0)
+yields_as vs YieldsTriplet rs = yields_triplet vs (ops_in rs 0)
+yields_as vs YieldsPairs rs = yields_pairs vs (ops_in rs 0)
+yields_as vs YieldsItem rs = yields_item vs (ops_in rs 0)
+yields_as vs YieldsElement rs = yields_element vs (ops_in rs 0)
+
 unfoldable pub yields_of : List Value → What → List Region → Bool
-yields_of vs (what.Assign realloc) rs = yields_value vs (ops_in rs 0) && yields_target vs (ops_in rs 1)
-yields_of vs what.Masked rs = yields_value vs (ops_in rs 0)
-yields_of vs what.Elsewhere rs = length rs == 1 || yields_value vs (ops_in rs 0)
-yields_of vs (what.Forall names) rs = yields_header vs names (ops_in rs 0)
-yields_of vs what.ForallMask rs = yields_truth vs (ops_in rs 0)
-yields_of vs what.DoLoop rs = yields_triplet vs (ops_in rs 0)
-yields_of vs (what.Allocmem also) rs = yields_pairs vs (ops_in rs 0)
-yields_of vs (what.Read also) rs = yields_item vs (ops_in rs 0)
-yields_of vs what.Elemental rs = yields_element vs (ops_in rs 0)
-yields_of vs _ rs = true
+yields_of vs w rs = yields_as vs (sort_of w).yields rs
 
 -- The right side of an assignment is a scalar or has the left side's rank, and has its type.
 unfoldable pub sides_of : List Value → What → List Region → Bool
@@ -82,11 +86,15 @@ realloc_of masked vs _ rs = true
 -- ---- 8 to 10: what bodies and lists hold
 
 -- The body of a where holds assignments and where, and its third region elsewheres, of which only the last one may have no mask.
-unfoldable pub where_of : List Value → What → List Region → Bool
-where_of vs what.Masked rs = list_all stands_in_where (ops_in rs 1) && are_elsewheres (ops_in rs 2) && mask_fits vs (first_kind vs (parts_in rs 0)) rs
-where_of vs what.Elsewhere rs =
+abbrev pub where_as : List Value → Controls → List Region → Bool
+where_as vs ControlsNothing rs = true
+where_as vs ControlsLeft rs = true
+where_as vs ControlsMask rs = list_all stands_in_where (ops_in rs 1) && are_elsewheres (ops_in rs 2) && mask_fits vs (first_kind vs (parts_in rs 0)) rs
+where_as vs ControlsElseMask rs =
     if length rs == 1 then list_all stands_in_where (ops_in rs 0) else (list_all stands_in_where (ops_in rs 1) && mask_fits vs (first_kind vs (parts_in rs 0)) rs)
-where_of vs _ rs = true
+
+unfoldable pub where_of : List Value → What → List Region → Bool
+where_of vs w rs = where_as vs (sort_of w).controls rs
 
 -- The body of a forall holds a mask at most, and then assignments to designators, with nothing of a rank above 0 inside.
 unfoldable pub forall_of : List Value → What → List Region → Bool
@@ -94,10 +102,15 @@ forall_of vs (what.Forall names) rs = fits_forall vs (ops_in rs 1)
 forall_of vs _ rs = true
 
 -- A workshare holds assignments, where and forall, and a do_loop statements.
+abbrev pub holds_as : Body → List Region → Bool
+holds_as NoBody rs = true
+holds_as WhereBody rs = true
+holds_as ForallBody rs = true
+holds_as SharedBody rs = list_all stands_in_workshare (ops_in rs 0)
+holds_as LoopBody rs = list_all stands_in_program (ops_in rs 1)
+
 abbrev pub holds_statements : What → List Region → Bool
-holds_statements what.Workshare rs = list_all stands_in_workshare (ops_in rs 0)
-holds_statements what.DoLoop rs = list_all stands_in_program (ops_in rs 1)
-holds_statements _ rs = true
+holds_statements w rs = holds_as (sort_of w).body rs
 
 -- So does the module after its declares. An op with `also` follows one of its sort and line.
 unfoldable pub lists_fit : Bool → List Op → Op → Bool
@@ -110,10 +123,14 @@ unfoldable pub declares_fit : Bool → List Value → List Op → Op → Bool
 declares_fit own vs before op = (not own || declares_first before (out-Op op).what) && reaches_by_box vs op
 
 -- There are at most 64 declares, of rank 3 and 65536 elements at most, a vector has at most 256 items, and bodies nest at most 65 deep.
+abbrev pub limits_as : ℕ → List Op → Limits → List ValueId → Option ValueKind → Bool
+limits_as bodies before LimitsNothing os kind = true
+limits_as bodies before LimitsDeclares os kind = nat_lt (declares_in before) declare_limit && is_small kind
+limits_as bodies before LimitsItems os kind = nat_le (length os) item_limit
+limits_as bodies before LimitsBodies os kind = nat_lt bodies body_limit
+
 abbrev pub own_limits : ℕ → List Op → What → List ValueId → Option ValueKind → Bool
-own_limits bodies before (what.Declare name) os kind = nat_lt (declares_in before) declare_limit && is_small kind
-own_limits bodies before what.Vector os kind = nat_le (length os) item_limit
-own_limits bodies before w os kind = not (has_body w) || nat_lt bodies body_limit
+own_limits bodies before w os kind = limits_as bodies before (sort_of w).limits os kind
 
 -- Inside an outermost assignment, where or forall stand at most 65536 ops and operands. Outside a workshare it has at most 512 phases and 64 temporaries.
 abbrev pub statement_fits : Bool → Bool → List Value → Op → Bool
@@ -128,15 +145,14 @@ expressions_fit vs ops = nat_le (size_of (order_of ops)) size_limit && fits_coun
 abbrev pub workshare_fits : List Value → List Op → Bool
 workshare_fits vs ops = fits_count (phases_of vs ops) (temporaries_of vs ops)
 
+abbrev pub counts_as : Bool → Bool → List Value → Counts → Op → Bool
+counts_as masked shared vs CountsNothing op = true
+counts_as masked shared vs CountsStatement op = statement_fits masked shared vs op
+counts_as masked shared vs CountsStatements op = workshare_fits vs (ops_in (out-Op op).regions 0)
+counts_as masked shared vs CountsStep op = expressions_fit vs (ops_in (out-Op op).regions 0)
+
 abbrev pub counts_fit : Bool → Bool → List Value → What → Op → Bool
-counts_fit masked shared vs (what.Assign realloc) op = statement_fits masked shared vs op
-counts_fit masked shared vs what.Masked op = statement_fits masked shared vs op
-counts_fit masked shared vs (what.Forall names) op = statement_fits masked shared vs op
-counts_fit masked shared vs what.Workshare op = workshare_fits vs (ops_in (out-Op op).regions 0)
-counts_fit masked shared vs what.DoLoop op = expressions_fit vs (ops_in (out-Op op).regions 0)
-counts_fit masked shared vs (what.Allocmem also) op = expressions_fit vs (ops_in (out-Op op).regions 0)
-counts_fit masked shared vs (what.Read also) op = expressions_fit vs (ops_in (out-Op op).regions 0)
-counts_fit masked shared vs _ op = true
+counts_fit masked shared vs w op = counts_as masked shared vs (sort_of w).counts op
 
 unfoldable pub limits_fit : Around → List Value → List Op → Op → Bool
 limits_fit a vs before op = own_limits a.bodies before (out-Op op).what (out-Op op).operands (out-Op op).kind && counts_fit a.masked a.shared vs (out-Op op).what op

@@ -5,43 +5,31 @@ use Rattle.ws_space.specs.WellFormed.{elements}
 use Rattle.hlfir_ops.specs.declared.kinds.ValueKind.{ValueKind}
 use Rattle.hlfir_ops.specs.declared.kinds.ValueKind.TheVariants.{Declared, Allocatable}
 use Rattle.hlfir_ops.specs.declared.what.What.{What}
-use Rattle.hlfir_ops.specs.declared.what.What.TheVariants as what
 use Rattle.hlfir_ops.specs.declared.op.ValueId.{ValueId}
 use Rattle.hlfir_ops.specs.declared.op.Op.{Op, out-Op}
-pub use Rattle.hlfir_ops.specs.Sorts.{has_body}
+pub use Rattle.hlfir_ops.specs.Sorts.{has_body, Adds, AddsNothing, AddsMask, AddsElseMask, AddsAssignment, AddsHeader, AddsReduction, AddsWholes}
+use Rattle.hlfir_ops.specs.Sorts.{sort_of}
 use Rattle.hlfir_ops.specs.RulesValues.{Value, value_at, is_whole}
 use Rattle.hlfir_ops.specs.Numbers.{order_in}
 use Rattle.hlfir_ops.specs.RulesStatements.{declares}
 
+-- ---- declares, vectors and bodies
+
+abbrev pub body_limit : ℕ
+body_limit = 65
+
 abbrev pub declare_limit : ℕ
 declare_limit = 64
+
+abbrev pub declares_in : List Op → ℕ
+declares_in [] = 0
+declares_in (op ∷ ops) = (if declares op then 1 else 0) + declares_in ops
 
 abbrev pub rank_limit : ℕ
 rank_limit = 3
 
 abbrev pub element_limit : ℕ
 element_limit = 65536
-
-abbrev pub item_limit : ℕ
-item_limit = 256
-
-abbrev pub body_limit : ℕ
-body_limit = 65
-
-abbrev pub size_limit : ℕ
-size_limit = 65536
-
-abbrev pub phase_limit : ℕ
-phase_limit = 512
-
-abbrev pub temporary_limit : ℕ
-temporary_limit = 64
-
--- ---- declares, vectors and bodies
-
-abbrev pub declares_in : List Op → ℕ
-declares_in [] = 0
-declares_in (op ∷ ops) = (if declares op then 1 else 0) + declares_in ops
 
 abbrev pub is_small_shape : Shape → Bool
 is_small_shape shape = nat_le shape.rank rank_limit && nat_le (elements shape) element_limit
@@ -51,7 +39,13 @@ is_small (Some (Declared e shape)) = is_small_shape shape
 is_small (Some (Allocatable e rank)) = nat_le rank rank_limit
 is_small _ = true
 
+abbrev pub item_limit : ℕ
+item_limit = 256
+
 -- ---- how large a statement is: the ops inside it and their operands
+
+abbrev pub size_limit : ℕ
+size_limit = 65536
 
 abbrev pub size_of : List Op → ℕ
 size_of [] = 0
@@ -104,45 +98,8 @@ abbrev pub with_wholes : List Value → Count → List ValueId → Count
 with_wholes vs c [] = c
 with_wholes vs c (v ∷ more) = with_wholes vs (if is_whole (value_at vs v) then with_whole c else c) more
 
--- what an op adds to the count: a mask, which an elsewhere of one region has not; an assignment; a header; a reduction; its vector subscripts
-pub data Adds : Type 0 where
-  AddsNothing : Adds
-  AddsMask : Adds
-  AddsElseMask : Adds
-  AddsAssignment : Adds
-  AddsHeader : Adds
-  AddsReduction : Adds
-  AddsWholes : Adds
-
 abbrev pub adds_of : What → Adds
-adds_of (what.Declare name) = AddsNothing
-adds_of (what.Assign realloc) = AddsAssignment
-adds_of what.Masked = AddsMask
-adds_of what.Elsewhere = AddsElseMask
-adds_of (what.Forall names) = AddsHeader
-adds_of what.ForallMask = AddsMask
-adds_of what.Workshare = AddsNothing
-adds_of what.DoLoop = AddsNothing
-adds_of (what.Allocmem also) = AddsNothing
-adds_of (what.Freemem also) = AddsNothing
-adds_of (what.Read also) = AddsNothing
-adds_of what.Yield = AddsNothing
-adds_of what.YieldElement = AddsNothing
-adds_of (what.Constant c) = AddsNothing
-adds_of (what.Unary op) = AddsNothing
-adds_of (what.Binary op) = AddsNothing
-adds_of what.Select = AddsNothing
-adds_of what.Load = AddsNothing
-adds_of what.Boxed = AddsNothing
-adds_of (what.Bound word dim) = AddsNothing
-adds_of what.Size = AddsNothing
-adds_of what.Allocated = AddsNothing
-adds_of (what.Designate subs) = AddsWholes
-adds_of what.Vector = AddsNothing
-adds_of what.AsExpr = AddsNothing
-adds_of what.Elemental = AddsNothing
-adds_of what.Apply = AddsNothing
-adds_of (what.Reduce reduction) = AddsReduction
+adds_of w = (sort_of w).adds
 
 abbrev pub with_added : List Value → Count → Adds → List ValueId → ℕ → Count
 with_added vs c AddsNothing os regions = c
@@ -170,6 +127,12 @@ statement_count vs op = let c = counted_all vs (counted vs nothing op) (order_in
 -- the expressions of one region, which are one step
 abbrev pub step_count : List Value → List Op → Count
 step_count vs ops = ended (counted_all vs nothing ops)
+
+abbrev pub phase_limit : ℕ
+phase_limit = 512
+
+abbrev pub temporary_limit : ℕ
+temporary_limit = 64
 
 abbrev pub fits_count : ℕ → ℕ → Bool
 fits_count phases temporaries = nat_le phases phase_limit && nat_le temporaries temporary_limit

@@ -9,7 +9,8 @@ use Rattle.hlfir_ops.specs.declared.op.ValueId.{ValueId}
 use Rattle.hlfir_ops.specs.declared.op.Op.{Op, out-Op}
 use Rattle.hlfir_ops.specs.declared.op.Region.{Region, out-Region}
 use Rattle.hlfir_ops.specs.Numbers.{order_of, order_in}
-pub use Rattle.hlfir_ops.specs.Sorts.{is_declare, is_assign, is_where, is_elsewhere, is_forall, is_forall_mask, is_statement, is_whole_op, may_take_allocatable}
+pub use Rattle.hlfir_ops.specs.Sorts.{is_declare, is_assign, is_where, is_elsewhere, is_forall, is_forall_mask, is_statement, is_whole_op, may_take_allocatable, same_sort, is_also}
+use Rattle.hlfir_ops.specs.Sorts.{Controls, ControlsNothing, ControlsLeft, ControlsMask, ControlsElseMask, sort_of}
 use Rattle.hlfir_ops.specs.RulesValues.{Value, value_at, kind_at, same_elem, elem_of, rank_of, has_rank, is_mask, is_section, is_designate, is_allocatable_declare}
 use Rattle.hlfir_ops.specs.RulesRegions.{parts, parts_in, last_of}
 
@@ -52,11 +53,14 @@ abbrev pub have_rank : List Value → ℕ → List ValueId → Bool
 have_rank vs n = list_all (λ v. has_rank n (kind_at vs v))
 
 -- What a mask controls has this rank: the left side of an assignment, and the mask of a where or elsewhere.
+abbrev pub controls_as : List Value → ℕ → Controls → List Region → Bool
+controls_as vs n ControlsNothing rs = true
+controls_as vs n ControlsLeft rs = have_rank vs n (parts_in rs 1)
+controls_as vs n ControlsMask rs = have_rank vs n (parts_in rs 0)
+controls_as vs n ControlsElseMask rs = length rs == 1 || have_rank vs n (parts_in rs 0)
+
 abbrev pub controls_rank : List Value → ℕ → What → List Region → Bool
-controls_rank vs n (what.Assign realloc) rs = have_rank vs n (parts_in rs 1)
-controls_rank vs n what.Masked rs = have_rank vs n (parts_in rs 0)
-controls_rank vs n what.Elsewhere rs = length rs == 1 || have_rank vs n (parts_in rs 0)
-controls_rank vs n _ rs = true
+controls_rank vs n w rs = controls_as vs n (sort_of w).controls rs
 
 abbrev pub is_controlled : List Value → ℕ → Op → Bool
 is_controlled vs n op = controls_rank vs n (out-Op op).what (out-Op op).regions
@@ -95,18 +99,6 @@ abbrev pub follows : List Op → Op → Bool
 follows before op = stands_in_program op || declares op && list_all declares before
 
 -- an op of the same sort and line
-abbrev pub same_sort : What → What → Bool
-same_sort (what.Allocmem a) (what.Allocmem b) = true
-same_sort (what.Freemem a) (what.Freemem b) = true
-same_sort (what.Read a) (what.Read b) = true
-same_sort _ _ = false
-
-abbrev pub is_also : What → Bool
-is_also (what.Allocmem also) = also
-is_also (what.Freemem also) = also
-is_also (what.Read also) = also
-is_also _ = false
-
 abbrev pub is_like : Option Op → Op → Bool
 is_like (Some last) op = same_sort (out-Op last).what (out-Op op).what && (out-Op last).line == (out-Op op).line
 is_like None op = false

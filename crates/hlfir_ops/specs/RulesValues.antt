@@ -1,88 +1,52 @@
 -- What the rules ask of the values of a module: the kind of each, and what sort of op gives it.
 use Rattle.std.specs.Prelude.{ℕ, suc, ◌==◌, ◌&&◌, nat_lt, Bool, true, false, not, List, [], ◌∷◌, ◌++◌, map, Option, Some, None, slice_get}
-use Rattle.std.specs.List.{list_any}
 use mathlib.Core.Former.{Count}
 use Rattle.ws_base.specs.declared.name.Name.{Name}
 use Rattle.hlfir_ops.specs.declared.kinds.Elem.{Elem}
 use Rattle.hlfir_ops.specs.declared.kinds.Elem.TheVariants.{I32, I1}
 use Rattle.hlfir_ops.specs.declared.kinds.ValueKind.{ValueKind}
 use Rattle.hlfir_ops.specs.declared.kinds.ValueKind.TheVariants.{Scalar, Place, Declared, Allocatable, Section, Array}
-use Rattle.hlfir_ops.specs.declared.what.SubKind.{SubKind}
-use Rattle.hlfir_ops.specs.declared.what.SubKind.TheVariants as sub
 use Rattle.hlfir_ops.specs.declared.what.What.{What}
-use Rattle.hlfir_ops.specs.declared.what.What.TheVariants as what
 use Rattle.hlfir_ops.specs.declared.op.ValueId.{ValueId}
 use Rattle.hlfir_ops.specs.declared.op.Op.{Op, Op'}
 use Rattle.hlfir_ops.specs.declared.op.Region.{Region, Region', out-Region}
+pub use Rattle.hlfir_ops.specs.Sorts.{Source, Declares, Designates, Lists, Other, is_vector, has_vector}
+use Rattle.hlfir_ops.specs.Sorts.{sort_of}
 use Rattle.hlfir_ops.specs.Trees.{Ops, end_ops, more_ops, Regions, end_regions, more_regions}
 use Rattle.hlfir_ops.specs.Numbers.{names_in, kind_of_name}
 
 -- ---- what gives a value
 
--- a declare; a designate, with a vector subscript or without one; a vector; another op, or a forall that gives an index name
-pub data Source : Type 0 where
-  Declares : Source
-  Designates : Bool → Source
-  Lists : Source
-  Other : Source
-
 pub record Value : Type 0 where
   pub kind : ValueKind
   pub source : Source
 
-abbrev pub is_vector : SubKind → Bool
-is_vector sub.One = false
-is_vector sub.Range = false
-is_vector sub.Vector = true
-
-abbrev pub has_vector : List SubKind → Bool
-has_vector = list_any is_vector
-
 abbrev pub source_of : What → Source
-source_of (what.Declare name) = Declares
-source_of (what.Assign realloc) = Other
-source_of what.Masked = Other
-source_of what.Elsewhere = Other
-source_of (what.Forall names) = Other
-source_of what.ForallMask = Other
-source_of what.Workshare = Other
-source_of what.DoLoop = Other
-source_of (what.Allocmem also) = Other
-source_of (what.Freemem also) = Other
-source_of (what.Read also) = Other
-source_of what.Yield = Other
-source_of what.YieldElement = Other
-source_of (what.Constant c) = Other
-source_of (what.Unary op) = Other
-source_of (what.Binary op) = Other
-source_of what.Select = Other
-source_of what.Load = Other
-source_of what.Boxed = Other
-source_of (what.Bound word dim) = Other
-source_of what.Size = Other
-source_of what.Allocated = Other
-source_of (what.Designate subs) = Designates (has_vector subs)
-source_of what.Vector = Lists
-source_of what.AsExpr = Other
-source_of what.Elemental = Other
-source_of what.Apply = Other
-source_of (what.Reduce r) = Other
+source_of w = (sort_of w).source
 
 abbrev pub is_declares : Source → Bool
 is_declares Declares = true
-is_declares _ = false
+is_declares (Designates vector) = false
+is_declares Lists = false
+is_declares Other = false
 
 abbrev pub is_designates : Source → Bool
+is_designates Declares = false
 is_designates (Designates vector) = true
-is_designates _ = false
+is_designates Lists = false
+is_designates Other = false
 
 abbrev pub has_vector_source : Source → Bool
+has_vector_source Declares = false
 has_vector_source (Designates vector) = vector
-has_vector_source _ = false
+has_vector_source Lists = false
+has_vector_source Other = false
 
 abbrev pub is_lists : Source → Bool
+is_lists Declares = false
+is_lists (Designates vector) = false
 is_lists Lists = true
-is_lists _ = false
+is_lists Other = false
 
 -- ---- the values in the order of their numbers
 

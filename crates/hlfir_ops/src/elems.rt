@@ -74,29 +74,18 @@ pub fn operand_elem(op: ValueBinary) -> Elem
     }
 }
 
+/// A comparison gives a truth value, and any other operation what it takes.
 pub fn result_elem(op: ValueBinary) -> Elem
     ensures { result ≡ forms.result_elem op }
 {
     match op {
-        ValueBinary::Add
-        | ValueBinary::Sub
-        | ValueBinary::Mul
-        | ValueBinary::Div
-        | ValueBinary::Min
-        | ValueBinary::Max
-        | ValueBinary::Pow
-        | ValueBinary::Mod
-        | ValueBinary::Modulo => Elem::I32,
         ValueBinary::Eq
         | ValueBinary::Ne
         | ValueBinary::Lt
         | ValueBinary::Le
         | ValueBinary::Gt
-        | ValueBinary::Ge
-        | ValueBinary::And
-        | ValueBinary::Or
-        | ValueBinary::Eqv
-        | ValueBinary::Neqv => Elem::I1,
+        | ValueBinary::Ge => Elem::I1,
+        _ => operand_elem(op),
     }
 }
 
@@ -110,15 +99,12 @@ pub fn reduced_elem(reduction: Reduction) -> Elem
     }
 }
 
+/// COUNT gives a number, and any other reduction what it takes.
 pub fn total_elem(reduction: Reduction) -> Elem
     ensures { result ≡ forms.total_elem reduction }
 {
     match reduction {
-        Reduction::Any | Reduction::All => Elem::I1,
-        Reduction::Sum
-        | Reduction::Product
-        | Reduction::Minval
-        | Reduction::Maxval
-        | Reduction::Count => Elem::I32,
+        Reduction::Count => Elem::I32,
+        _ => reduced_elem(reduction),
     }
 }

@@ -1,4 +1,6 @@
 //! A program as a list of ops, and how such a list is built.
+//!
+//! Read `specs/Numbers.antt` first (which numbers the values have), then `specs/Rules.antt` (which modules are right).
 #![tactic(auto)]
 
 mod around;
