@@ -266,7 +266,7 @@ form (Join l count kind t' f slot) m chunk i k w t h =
 
 -- ---- keys are compared as act, op, element
 
-name_small : (n : FaultName) → (0 < fault_number n) × (fault_number n < 15)
+pub name_small : (n : FaultName) → (0 < fault_number n) × (fault_number n < 13)
 name_small fault.Bounds = (omega arith, omega arith)
 name_small fault.Shape = (omega arith, omega arith)
 name_small fault.Overflow = (omega arith, omega arith)

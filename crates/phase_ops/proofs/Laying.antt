@@ -62,40 +62,19 @@ pub lay_comm : (m : Memory) (e : Effect) (fs : List Effect) → ((f : Effect) �
 lay_comm m e [] a = refl
 lay_comm m e (f ∷ fs) a = ap (λ (z : Memory). lay_both z fs) (apply_comm m e f (a f (inl refl))) ∙ lay_comm (apply f m) e fs (λ g h. a g (inr h))
 
-is_store : Effect → Type 0
-is_store (Store c v) = Unit {0}
-is_store (Least c v) = ⊥
-is_store (Fault k) = ⊥
-
-cell_in : Effect → ℕ
-cell_in (Store c v) = c
-cell_in (Least c v) = c
-cell_in (Fault k) = k
-
 pub stored_is : (c v : ℕ) (es : List Effect) → In (Store c v) es → In c (stored es)
-unfolding is_store cell_in
 stored_is c v [] h = elim h [ ]
-stored_is c v (Store d w ∷ es) (inl e) = inl (ap (λ (z : Effect). cell_in z) e)
+stored_is c v (y ∷ es) (inl e) = subst (λ (z : Effect). In c (stored (z ∷ es))) e (inl refl)
 stored_is c v (Store d w ∷ es) (inr h) = inr (stored_is c v es h)
 stored_is c v (Least d w ∷ es) (inr h) = stored_is c v es h
 stored_is c v (Fault k ∷ es) (inr h) = stored_is c v es h
-stored_is c v (Least d w ∷ es) (inl e) = absurd (subst is_store e tt)
-stored_is c v (Fault k ∷ es) (inl e) = absurd (subst is_store e tt)
-
-is_least : Effect → Type 0
-is_least (Store c v) = ⊥
-is_least (Least c v) = Unit {0}
-is_least (Fault k) = ⊥
 
 pub lessened_is : (c v : ℕ) (es : List Effect) → In (Least c v) es → In c (lessened es)
-unfolding is_least cell_in
 lessened_is c v [] h = elim h [ ]
-lessened_is c v (Least d w ∷ es) (inl e) = inl (ap (λ (z : Effect). cell_in z) e)
+lessened_is c v (y ∷ es) (inl e) = subst (λ (z : Effect). In c (lessened (z ∷ es))) e (inl refl)
 lessened_is c v (Least d w ∷ es) (inr h) = inr (lessened_is c v es h)
 lessened_is c v (Store d w ∷ es) (inr h) = lessened_is c v es h
 lessened_is c v (Fault k ∷ es) (inr h) = lessened_is c v es h
-lessened_is c v (Store d w ∷ es) (inl e) = absurd (subst is_least e tt)
-lessened_is c v (Fault k ∷ es) (inl e) = absurd (subst is_least e tt)
 
 -- effects of different units are apart: what the proof of Put, Least and Note needs
 pub units_apart : (w : Work) → FreeOfRaces w → (u v : ℕ) → u < w.units → v < w.units → u ≢ v → (e f : Effect) → In e (w.effects u) → In f (w.effects v) → Apart e f

@@ -1,5 +1,5 @@
 -- The fault that a key stands for.
-use Rattle.std.specs.Prelude.{◌≡◌, ℕ, ◌<◌, List, [], ◌∷◌, length, map, slice_index_or, true, false}
+use Rattle.std.specs.Prelude.{◌≡◌, ℕ, ◌/◌, ◌%◌, ◌<◌, List, [], ◌∷◌, length, map, slice_index_or, true, false}
 use Rattle.ws_base.specs.declared.fault.FaultName.{FaultName}
 use Rattle.ws_base.specs.declared.fault.Fault.{Fault}
 use Rattle.phase_ops.specs.declared.phase.Act.{Act}
@@ -33,6 +33,16 @@ pub record IsKey (p : Phase) (key act op element : ℕ) (name : FaultName) : Typ
 abbrev pub HasKey : Phase → ℕ → Type 0
 HasKey p key = (act op element : ℕ) × (name : FaultName) × IsKey p key act op element name
 
+-- the same by the key's own parts: its act is one of the phase's, and its last part is the number of a fault
+pub record HoldsKey (p : Phase) (key : ℕ) : Type 0 where
+  pub act_in : key / 17592186044416 < length (act_lines p)
+  pub named : 0 < key % 16
+  pub is_name : key % 16 < 13
+
 -- a fault has the line of its act
 abbrev pub fault_at : Phase → ℕ → ℕ → FaultName → Fault
 fault_at p act element name = record { line = slice_index_or (act_lines p) act 0; name = name; element = element }
+
+-- the key is the phase's, and this is its fault
+abbrev pub IsFaultOf : Phase → ℕ → Fault → Type 0
+IsFaultOf p key f = HasKey p key × ((act op element : ℕ) (name : FaultName) → IsKey p key act op element name → f ≡ fault_at p act element name)

@@ -3,24 +3,14 @@
 use sqlite_items::Items;
 use ws_base::{CallWord, FaultName, Name};
 
-pub type RangeList = Items<Range>;
-
-pub type TermList = Items<Term>;
-
-pub type MicroList = Items<Micro>;
-
-pub type ActList = Items<Act>;
-
-pub type PhaseList = Items<Phase>;
-
-pub type GroupList = Items<Group>;
-
 /// A run of cells. Cells count from 0.
 #[derive(Clone, Copy, Debug, PartialEq, Eq)]
 pub struct Range {
     pub first: u32,
     pub cells: u32,
 }
+
+pub type RangeList = Items<Range>;
 
 /// Which cells belong to what: to each variable, to the descriptor of each allocatable, to the values of stage 1, to each
 /// temporary, and to the marks of a check for targets that are named twice.
@@ -80,6 +70,8 @@ pub struct Term {
     pub step: Source,
 }
 
+pub type TermList = Items<Term>;
+
 /// The cell whose number is the base and the terms, added up. A negative sum names no cell.
 #[derive(Drop)]
 pub struct Address {
@@ -114,6 +106,8 @@ pub enum Micro {
     Least(Address, u32),
 }
 
+pub type MicroList = Items<Micro>;
+
 /// Ops that run in order at each iteration. A fault of theirs has the act's line, and the element 0 where the act is
 /// `whole`, else the number of the iteration, from 1.
 #[derive(Drop)]
@@ -122,6 +116,8 @@ pub struct Act {
     pub ops: MicroList,
     pub whole: bool,
 }
+
+pub type ActList = Items<Act>;
 
 /// What a phase is for. Temporaries count from 1.
 #[derive(Drop)]
@@ -188,6 +184,8 @@ pub enum Phase {
     },
 }
 
+pub type PhaseList = Items<Phase>;
+
 /// The phases of a region, or of one outermost statement outside regions.
 #[derive(Drop)]
 pub struct Group {
@@ -195,3 +193,5 @@ pub struct Group {
     pub shared: bool,
     pub phases: PhaseList,
 }
+
+pub type GroupList = Items<Group>;
