@@ -1,15 +1,15 @@
 -- A number that has the parts of a key of the phase is one of its keys.
-use Rattle.std.proofs.Common.{◌≡◌, ◌⊎◌, inl, inr, ℕ, ◌+◌, ◌*◌, ◌/◌, ◌%◌, ◌<◌, ◌≤◌, sym, refl, ◌∙◌, arith}
+use Rattle.std.proofs.Common.{◌≡◌, ◌⊎◌, inl, inr, ℕ, ◌/◌, ◌%◌, ◌<◌, sym, arith}
 use mathlib.Core.Logic.{dite}
 use native.Mathlib.Decide.{ℕ_discrete}
 use Rattle.ws_base.specs.declared.fault.FaultName.{FaultName}
 use Rattle.ws_base.specs.declared.fault.FaultName.TheVariants as fault
 use Rattle.ws_base.specs.Words.{fault_number}
 use Rattle.phase_ops.specs.declared.phase.Phase.{Phase}
-use Rattle.phase_ops.specs.Phases.{Cells, key, key_of, none_yet}
+use Rattle.phase_ops.specs.Phases.{Cells, key, none_yet}
 use Rattle.phase_ops.specs.Free.{WellFormed, IsChunk}
 use Rattle.phase_ops.specs.Laws.{element_of, NoneFails, IsFirstFault}
-use Rattle.phase_ops.specs.Faults.{IsKey, HasKey, HoldsKey}
+use Rattle.phase_ops.specs.Faults.{HasKey, HoldsKey}
 use Rattle.phase_ops.proofs.Keys.{name_small, key_holds}
 
 abbrev Numbered : ℕ → Type 0
