@@ -121,3 +121,18 @@ moved_rest v v' regs rest more e h = subst (λ (z : View). Comes z (rest z.cells
 pub opened_at : (s : Spot) (v : View) (ops : List Micro) (at : ℕ) (r : Micro) (regs : List ℤ) (rest : Rest) (more : List Effect) → r ≡ slice_index_or ops at r → at < length ops → Comes v (ops_events s (drop at ops) v.cells regs rest) more
     → Before s v r (drop (at + 1) ops) regs rest more
 opened_at s v ops at r regs rest more e l h = subst (λ (o : Micro). Before s v o (drop (at + 1) ops) regs rest more) (sym e) (opened s v ops at r regs rest more l h)
+
+-- the same of the op at this place of the act's
+module _ (s : Spot) (v : View) (all : List Micro) (at : ℕ) (op : Micro) (regs : List ℤ) (rest : Rest) (more : List Effect) (is : op ≡ slice_index_or all at op) (l : at < length all)
+    (h : Comes v (ops_events s (drop at all) v.cells regs rest) more) where
+  pub looks_at : (c : ℕ) → In c (looks v.cells regs op) → In c v.may × Small c
+  looks_at = may_looks s v op (drop (at + 1) all) regs rest more (opened_at s v all at op regs rest more is l h)
+
+  pub named_at : (c : ℕ) → In c (named_cells v.cells regs op) → Small c
+  named_at = named_small s v op (drop (at + 1) all) regs rest more (opened_at s v all at op regs rest more is l h)
+
+  pub fault_at : (n : FaultName) → Fails n ≡ turn s.iteration v.cells regs op → v.left ≡ Fault (base s regs + fault_number n) ∷ more
+  fault_at = fault_next s v op (drop (at + 1) all) regs rest more (opened_at s v all at op regs rest more is l h)
+
+  pub effect_at : (e : Effect) → Does e ≡ turn s.iteration v.cells regs op → v.left ≡ e ∷ (makes (next_of s (drop (at + 1) all) regs rest (over e v.cells) (pos 0)) ++ more)
+  effect_at = effect_next s v op (drop (at + 1) all) regs rest more (opened_at s v all at op regs rest more is l h)

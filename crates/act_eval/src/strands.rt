@@ -40,6 +40,36 @@ pub fn strands_of(phase: &Phase, chunks: Chunks, unit: u32) -> (u32, u32)
     }
 }
 
+/// The run over the partials of the reduction that the word names.
+macro_rules! of_each {
+    ($kind:expr, $run:expr) => {
+        match $kind {
+            CallWord::Sum => {
+                let _sum: SumPart = $run;
+            }
+            CallWord::Product => {
+                let _product: ProductPart = $run;
+            }
+            CallWord::Minval => {
+                let _least: MinvalPart = $run;
+            }
+            CallWord::Maxval => {
+                let _greatest: MaxvalPart = $run;
+            }
+            CallWord::Count => {
+                let _count: CountPart = $run;
+            }
+            CallWord::Any => {
+                let _any: AnyPart = $run;
+            }
+            CallWord::All => {
+                let _all: AllPart = $run;
+            }
+            _ => {}
+        }
+    };
+}
+
 /// A unit of a Part of any reduction.
 fn run_part_of<H, S: Site<H>>(
     site: &S,
@@ -61,30 +91,10 @@ fn run_part_of<H, S: Site<H>>(
     ensures long { length registers.new ≡ length registers.old }
     ensures belongs { S.belongs site.now hand.new }
 {
-    match kind {
-        CallWord::Sum => {
-            let _sum: SumPart = run_part(site, hand, act, from, count, cell, registers);
-        }
-        CallWord::Product => {
-            let _product: ProductPart = run_part(site, hand, act, from, count, cell, registers);
-        }
-        CallWord::Minval => {
-            let _least: MinvalPart = run_part(site, hand, act, from, count, cell, registers);
-        }
-        CallWord::Maxval => {
-            let _greatest: MaxvalPart = run_part(site, hand, act, from, count, cell, registers);
-        }
-        CallWord::Count => {
-            let _count: CountPart = run_part(site, hand, act, from, count, cell, registers);
-        }
-        CallWord::Any => {
-            let _any: AnyPart = run_part(site, hand, act, from, count, cell, registers);
-        }
-        CallWord::All => {
-            let _all: AllPart = run_part(site, hand, act, from, count, cell, registers);
-        }
-        _ => {}
-    }
+    of_each!(
+        kind,
+        run_part(site, hand, act, from, count, cell, registers)
+    );
 }
 
 /// A Join of any reduction.
@@ -103,30 +113,7 @@ fn run_join_of<H, S: Site<H>>(
     ensures left { (more : List Effect) → JoinBegins (S.view site.now hand.old) kind first count slot more → (S.view site.now hand.new).left ≡ more }
     ensures belongs { S.belongs site.now hand.new }
 {
-    match kind {
-        CallWord::Sum => {
-            let _sum: SumPart = run_join(site, hand, first, count, slot);
-        }
-        CallWord::Product => {
-            let _product: ProductPart = run_join(site, hand, first, count, slot);
-        }
-        CallWord::Minval => {
-            let _least: MinvalPart = run_join(site, hand, first, count, slot);
-        }
-        CallWord::Maxval => {
-            let _greatest: MaxvalPart = run_join(site, hand, first, count, slot);
-        }
-        CallWord::Count => {
-            let _count: CountPart = run_join(site, hand, first, count, slot);
-        }
-        CallWord::Any => {
-            let _any: AnyPart = run_join(site, hand, first, count, slot);
-        }
-        CallWord::All => {
-            let _all: AllPart = run_join(site, hand, first, count, slot);
-        }
-        _ => {}
-    }
+    of_each!(kind, run_join(site, hand, first, count, slot));
 }
 
 /// One strand of a phase over what is there: its effects are done, and no other.

@@ -3,7 +3,7 @@ use Rattle.std.proofs.lemmas.Int.{to_z-of_z}
 use Rattle.std.proofs.lemmas.List.{take_more_set, drop_all}
 use Rattle.phase_ops.specs.declared.phase.Micro.{Micro}
 use Rattle.phase_ops.specs.declared.effect.Turn.TheVariants.{Next}
-use Rattle.act_eval.proofs.OpSteps.{Before, opened_at, may_looks, named_small, follow_turn, effect_next, fault_next, effect_done, moved}
+use Rattle.act_eval.proofs.OpSteps.{Before, opened_at, follow_turn, effect_next, effect_done, moved, looks_at, named_at, fault_at, effect_at}
 use Rattle.act_eval.proofs.Leads.{led_same, led_then, led_by}
 use Rattle.act_eval.proofs.acts.run_ops.Goals.{in-Next, in-Does}
 use Rattle.std.proofs.Common.{sym, subst, ap, ◌∙◌, arith, length-set, length-take-le, set, of_z, ◌≡◌, ℕ, ◌+◌, ◌*◌, ◌<◌, List, [], ◌∷◌, length, drop, take, ℤ, pos}
@@ -15,40 +15,17 @@ use Rattle.act_eval.specs.Sites.{View, Comes, Rest, spot_of}
 use Rattle.act_eval.proofs.acts.run_ops.Goals as goal
 
 pub turn_at-turn-requires-clause-loads : goal.turn_at-turn-requires-clause-loads
-turn_at-turn-requires-clause-loads g c =
-    let s : Spot = spot_of c.args.act c.args.element c.args.iteration in
-    let v : View = g.S.Site.view c.args.site.now c.loop-at.hand in
-    let regs : List ℤ = take c.loop-at.at c.loop-at.registers in
-    let op : Micro = c.index-ops-at.result in
-    let ops : List Micro = drop (c.loop-at.at + 1) c.args.ops.now in
-    let rest : Rest = c.requires.comes.0 in
-    let more : List Effect = c.requires.comes.1 in
-    let b : Before s v op ops regs rest more = opened_at s v c.args.ops.now c.loop-at.at op regs rest more c.index-ops-at.is c.loop-at-test.true (c.loop-at.invariant.going rest more c.requires.comes.2) in
-    may_looks s v op ops regs rest more b
+turn_at-turn-requires-clause-loads g c = looks_at (spot_of c.args.act c.args.element c.args.iteration) (g.S.Site.view c.args.site.now c.loop-at.hand) c.args.ops.now c.loop-at.at c.index-ops-at.result (take c.loop-at.at c.loop-at.registers) c.requires.comes.0 c.requires.comes.1
+    c.index-ops-at.is c.loop-at-test.true (c.loop-at.invariant.going c.requires.comes.0 c.requires.comes.1 c.requires.comes.2)
 
 pub turn_at-turn-requires-clause-small : goal.turn_at-turn-requires-clause-small
-turn_at-turn-requires-clause-small g c =
-    let s : Spot = spot_of c.args.act c.args.element c.args.iteration in
-    let v : View = g.S.Site.view c.args.site.now c.loop-at.hand in
-    let regs : List ℤ = take c.loop-at.at c.loop-at.registers in
-    let op : Micro = c.index-ops-at.result in
-    let ops : List Micro = drop (c.loop-at.at + 1) c.args.ops.now in
-    let rest : Rest = c.requires.comes.0 in
-    let more : List Effect = c.requires.comes.1 in
-    let b : Before s v op ops regs rest more = opened_at s v c.args.ops.now c.loop-at.at op regs rest more c.index-ops-at.is c.loop-at-test.true (c.loop-at.invariant.going rest more c.requires.comes.2) in
-    named_small s v op ops regs rest more b
+turn_at-turn-requires-clause-small g c = named_at (spot_of c.args.act c.args.element c.args.iteration) (g.S.Site.view c.args.site.now c.loop-at.hand) c.args.ops.now c.loop-at.at c.index-ops-at.result (take c.loop-at.at c.loop-at.registers) c.requires.comes.0 c.requires.comes.1
+    c.index-ops-at.is c.loop-at-test.true (c.loop-at.invariant.going c.requires.comes.0 c.requires.comes.1 c.requires.comes.2)
 
 pub act-requires-in-Does-clause-next : goal.act-requires-in-Does-clause-next
 act-requires-in-Does-clause-next g c =
-    let s : Spot = spot_of c.args.act c.args.element c.args.iteration in
-    let v : View = g.S.Site.view c.args.site.now c.loop-at.hand in
-    let regs : List ℤ = take c.loop-at.at c.loop-at.registers in
-    let op : Micro = c.index-ops-at.result in
-    let ops : List Micro = drop (c.loop-at.at + 1) c.args.ops.now in
-    let rest : Rest = c.requires.comes.0 in
-    let more : List Effect = c.requires.comes.1 in
-    let b : Before s v op ops regs rest more = opened_at s v c.args.ops.now c.loop-at.at op regs rest more c.index-ops-at.is c.loop-at-test.true (c.loop-at.invariant.going rest more c.requires.comes.2) in
-    let n = effect_next s v op ops regs rest more b c.in-Does.effect (sym c.in-Does.is ∙ c.turn_at-turn.ensures.value) in
+    let n = effect_at (spot_of c.args.act c.args.element c.args.iteration) (g.S.Site.view c.args.site.now c.loop-at.hand) c.args.ops.now c.loop-at.at c.index-ops-at.result (take c.loop-at.at c.loop-at.registers) c.requires.comes.0 c.requires.comes.1
+    c.index-ops-at.is c.loop-at-test.true (c.loop-at.invariant.going c.requires.comes.0 c.requires.comes.1 c.requires.comes.2) c.in-Does.effect (sym c.in-Does.is ∙ c.turn_at-turn.ensures.value) in
     (_, ap (λ (z : View). z.left) c.turn_at-turn.ensures.same ∙ n)
 
 pub loop-at-preserved : goal.loop-at-preserved
@@ -113,12 +90,8 @@ returns-in-Fails-clause-led g c =
     let v0 : View = g.S.Site.view c.args.site.now c.turn_at-turn.new.hand in
     let v' : View = g.S.Site.view c.args.site.now c.act.new.hand in
     let regs : List ℤ = take c.loop-at.at c.loop-at.registers in
-    let op : Micro = c.index-ops-at.result in
-    let ops : List Micro = drop (c.loop-at.at + 1) c.args.ops.now in
-    let rest : Rest = c.requires.comes.0 in
     let more : List Effect = c.requires.comes.1 in
-    let b : Before s v op ops regs rest more = opened_at s v c.args.ops.now c.loop-at.at op regs rest more c.index-ops-at.is c.loop-at-test.true (c.loop-at.invariant.going rest more c.requires.comes.2) in
-    let n = fault_next s v op ops regs rest more b c.in-Fails.name (sym c.in-Fails.is ∙ c.turn_at-turn.ensures.value) in
+    let n = fault_at s v c.args.ops.now c.loop-at.at c.index-ops-at.result regs c.requires.comes.0 more c.index-ops-at.is c.loop-at-test.true (c.loop-at.invariant.going c.requires.comes.0 more c.requires.comes.2) c.in-Fails.name (sym c.in-Fails.is ∙ c.turn_at-turn.ensures.value) in
     let long : length regs ≡ c.loop-at.at = length-take-le c.loop-at.at c.loop-at.registers (let a = c.loop-at.invariant.long in let r = c.requires.room in let t = c.loop-at-test.true in omega arith) in
     let key : ((c.args.act * 1048576 + length regs) * 1048576 + c.args.element) * 16 + fault_number c.in-Fails.name ≡ c.key_of.result = ap (λ (z : ℕ). ((c.args.act * 1048576 + z) * 1048576 + c.args.element) * 16 + fault_number c.in-Fails.name) long ∙ sym c.key_of.ensures in
     led_then (g.S.Site.view c.args.site.now c.args.hand.now) v v' c.loop-at.invariant.led
