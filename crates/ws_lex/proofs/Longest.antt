@@ -291,23 +291,26 @@ number-longest bytes rest n =
     let size = spell-number text begins.0 begins.1 in
     subst (λ l. length bytes ≤ (spell l).size) (sym n.value) (omega (arith, n.size, whole, size))
 
+-- a digit string is a number without the other parts
+pub number-of_digits : (d : ℕ) (ds rest : List ℕ) → is_digits (d ∷ ds) ≡ true → IsNumber (d ∷ ds) rest
+number-of_digits d ds rest h = record {
+  whole = d ∷ ds;
+  fraction = [];
+  exponent = [];
+  kind = [];
+  value = refl;
+  size = omega arith;
+  digits = h;
+  some = refl;
+  point = refl;
+  no_operator = inl refl;
+  power = refl;
+  named = refl;
+}
+
 digits-longest : (bytes rest : List ℕ) → is_digits bytes ≡ true → length bytes ≤ (spell (bytes ++ rest)).size
 digits-longest [] rest h = absurd (true≢false (sym h))
-digits-longest (d ∷ ds) rest h =
-    number-longest (d ∷ ds) rest (record {
-      whole = d ∷ ds;
-      fraction = [];
-      exponent = [];
-      kind = [];
-      value = refl;
-      size = omega arith;
-      digits = h;
-      some = refl;
-      point = refl;
-      no_operator = inl refl;
-      power = refl;
-      named = refl;
-    })
+digits-longest (d ∷ ds) rest h = number-longest (d ∷ ds) rest (number-of_digits d ds rest h)
 
 -- ---- quoted text
 

@@ -8,7 +8,7 @@ use Rattle.ws_lex.specs.declared.piece.Spelled.{Spelled}
 use Rattle.ws_lex.specs.Lines.{starts, is_quote}
 use Rattle.ws_lex.specs.Spelling.{is_letter, is_word_byte, begins_number, digit_run, word_run, first, number_length, shape_of_number, before_quote, quoted, word_of, spelled, fixed, dot_operators, truth_values, pairs, singles, spell}
 use Rattle.ws_lex.specs.Spells.{is_name, is_digits, IsNumber, IsQuoted, IsOneOf, Spells, IsNothing, all_fixed}
-use Rattle.ws_lex.proofs.Longest.{both, number-begins, before_quote-inner, length-quoted, Each, one-of}
+use Rattle.ws_lex.proofs.Longest.{both, number-begins, number-of_digits, before_quote-inner, length-quoted, Each, one-of}
 use Rattle.ws_lex.proofs.Taken.{is_fixed}
 
 when-is : (b : Bool) (x y : Spelled) → b ≡ true → (if b then x else y) ≡ x
@@ -76,21 +76,7 @@ number-taken bytes rest n broken =
 
 digits-taken : (bytes rest : List ℕ) → is_digits bytes ≡ true → (spell (bytes ++ rest)).shape ≢ shape.Broken
 digits-taken [] rest h = absurd (true≢false (sym h))
-digits-taken (d ∷ ds) rest h =
-    number-taken (d ∷ ds) rest (record {
-      whole = d ∷ ds;
-      fraction = [];
-      exponent = [];
-      kind = [];
-      value = refl;
-      size = omega arith;
-      digits = h;
-      some = refl;
-      point = refl;
-      no_operator = inl refl;
-      power = refl;
-      named = refl;
-    })
+digits-taken (d ∷ ds) rest h = number-taken (d ∷ ds) rest (number-of_digits d ds rest h)
 
 -- ---- quoted text
 
