@@ -9,14 +9,14 @@ abbrev pub is_name : Expr → Bool
 is_name (Named x) = true
 is_name _ = false
 
+abbrev pub is_one_name : List Expr → Bool
+is_one_name (x ∷ []) = is_name x
+is_one_name _ = false
+
 abbrev pub is_digits : Expr → Bool
 is_digits (Number n) = true
 is_digits TooWide = true
 is_digits _ = false
-
-abbrev pub is_one_name : List Expr → Bool
-is_one_name (x ∷ []) = is_name x
-is_one_name _ = false
 
 -- a name and a dimension
 abbrev pub is_with_dimension : List Expr → Bool

@@ -27,13 +27,17 @@ use Rattle.ws_tree.specs.Words.{is_other_call}
 
 abbrev mutual
   pub depth : Expr → ℕ
+  depth (Number n) = 1
+  depth TooWide = 1
+  depth TooDeep = 1
+  depth (Truth b) = 1
+  depth (Named x) = 1
   depth (Part' x _ subs) = 1 + subs_depth subs
   depth (Call' w _ es) = 1 + exprs_depth es
   depth (Vector' _ es) = 1 + exprs_depth es
   depth (paren e) = 1 + depth e
   depth (unary op e) = 1 + depth e
   depth (binary op a b) = 1 + max (depth a) (depth b)
-  depth _ = 1
 
   pub exprs_depth : {m : Count} → Exprs m → ℕ
   exprs_depth end_exprs = 0

@@ -14,20 +14,42 @@ use Rattle.ws_tree.specs.declared.stmt.Body.TheBlock as stmt
 abbrev pub Exprs : Count → Type 0
 Exprs = expr.Row_of-Expr
 
-pattern abbrev pub end_exprs : Exprs none_left
-end_exprs = expr.end_of-Expr
-
-pattern abbrev pub more_exprs : {m : Count} → Expr → Exprs m → Exprs (one_more m)
-more_exprs e es = expr.more_of-Expr e es
-
 abbrev pub Subs : Count → Type 0
 Subs = expr.Row_of-Sub
+
+abbrev pub Stmts : Count → Type 0
+Stmts = stmt.Row_of-Stmt
+
+abbrev pub Elses : Count → Type 0
+Elses = stmt.Row_of-Else
+
+-- the empty lists
+
+pattern abbrev pub end_exprs : Exprs none_left
+end_exprs = expr.end_of-Expr
 
 pattern abbrev pub end_subs : Subs none_left
 end_subs = expr.end_of-Sub
 
+pattern abbrev pub end_stmts : Stmts none_left
+end_stmts = stmt.end_of-Stmt
+
+pattern abbrev pub end_elses : Elses none_left
+end_elses = stmt.end_of-Else
+
+-- an item in front of a list
+
+pattern abbrev pub more_exprs : {m : Count} → Expr → Exprs m → Exprs (one_more m)
+more_exprs e es = expr.more_of-Expr e es
+
 pattern abbrev pub more_subs : {m : Count} → Sub → Subs m → Subs (one_more m)
 more_subs s ss = expr.more_of-Sub s ss
+
+pattern abbrev pub more_stmts : {m : Count} → ℕ → Body → Stmts m → Stmts (one_more m)
+more_stmts line body rest = stmt.more_of-Stmt line body rest
+
+pattern abbrev pub more_elses : {m : Count} → Else → Elses m → Elses (one_more m)
+more_elses e es = stmt.more_of-Else e es
 
 -- a part of a triplet, which may be omitted
 abbrev pub Given : Type 0
@@ -39,23 +61,7 @@ absent = expr.None'
 pattern abbrev pub given : Expr → Given
 given e = expr.Some' e
 
-abbrev pub Stmts : Count → Type 0
-Stmts = stmt.Row_of-Stmt
-
-pattern abbrev pub end_stmts : Stmts none_left
-end_stmts = stmt.end_of-Stmt
-
-pattern abbrev pub more_stmts : {m : Count} → ℕ → Body → Stmts m → Stmts (one_more m)
-more_stmts line body rest = stmt.more_of-Stmt line body rest
-
-abbrev pub Elses : Count → Type 0
-Elses = stmt.Row_of-Else
-
-pattern abbrev pub end_elses : Elses none_left
-end_elses = stmt.end_of-Else
-
-pattern abbrev pub more_elses : {m : Count} → Else → Elses m → Elses (one_more m)
-more_elses e es = stmt.more_of-Else e es
+-- expressions with operands
 
 pattern abbrev pub paren : Expr → Expr
 paren e = Paren' tt (more_exprs e end_exprs)

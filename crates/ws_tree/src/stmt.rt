@@ -4,20 +4,6 @@ use crate::expr::{Expr, ExprList};
 use sqlite_items::Items;
 use ws_base::Name;
 
-pub type BoundList = Items<Bound>;
-
-pub type DeclList = Items<Decl>;
-
-pub type IndexList = Items<Index>;
-
-pub type PartList = Items<Part>;
-
-pub type NameList = Items<Name>;
-
-pub type StmtList = Items<Stmt>;
-
-pub type ElseList = Items<Else>;
-
 /// The bounds of one dimension: `u`, `l:u`, or `:` alone.
 #[derive(Debug, Drop)]
 pub enum Bound {
@@ -25,6 +11,8 @@ pub enum Bound {
     Both(Expr, Expr),
     Deferred,
 }
+
+pub type BoundList = Items<Bound>;
 
 /// A declared entity, with the line of its statement.
 #[derive(Debug, Drop)]
@@ -37,6 +25,8 @@ pub struct Decl {
     pub shape: BoundList,
 }
 
+pub type DeclList = Items<Decl>;
+
 /// An index of a FORALL header.
 #[derive(Debug, Drop)]
 pub struct Index {
@@ -46,12 +36,19 @@ pub struct Index {
     pub s: Option<Expr>,
 }
 
+pub type IndexList = Items<Index>;
+
+/// The names of DEALLOCATE.
+pub type NameList = Items<Name>;
+
 /// An array that ALLOCATE allocates.
 #[derive(Debug, Drop)]
 pub struct Part {
     pub name: Name,
     pub shape: BoundList,
 }
+
+pub type PartList = Items<Part>;
 
 /// ELSEWHERE with its mask, if it has one, and its block.
 #[cycle(stmt)]
@@ -62,12 +59,16 @@ pub struct Else {
     pub block: Items<Stmt>,
 }
 
+pub type ElseList = Items<Else>;
+
 #[cycle(stmt)]
 #[derive(Debug, Drop)]
 pub struct Stmt {
     pub line: u32,
     pub body: Body,
 }
+
+pub type StmtList = Items<Stmt>;
 
 /// What a statement does. `TooDeep` is a block nested more than 64 deep, or a statement with more than 256 open brackets.
 #[cycle(stmt)]
