@@ -36,9 +36,9 @@ digit_run-small (b ∷ bs) = longer (is_digit b) b (digit_run bs) bs (is_digit-s
 record HasText (s : Spelled) (bs : List ℕ) : Type 0 where
   text : IsText s.shape (take s.size bs)
 
-either : (bs : List ℕ) (t : Bool) (x y : Spelled) → HasText x bs → HasText y bs → HasText (if t then x else y) bs
-either bs true x y this that = this
-either bs false x y this that = that
+either : {bs : List ℕ} {x y : Spelled} (t : Bool) → HasText x bs → HasText y bs → HasText (if t then x else y) bs
+either true this that = this
+either false this that = that
 
 word-text : (bs : List ℕ) (n : ℕ) (t : Bool) → IsAscii (take n bs) → HasText (if t then spelled n Word else spelled n Broken) bs
 word-text bs n true ascii = record { text = ascii }
@@ -71,31 +71,20 @@ fixed-text : (table : List (List ℕ × Shape)) (bs : List ℕ) → list_all (λ
 fixed-text [] bs h = record { text = tt }
 fixed-text (f ∷ fs) bs h =
     let parts = both (is_fixed f.1) (list_all (λ g. is_fixed g.1) fs) h in
-    either bs (starts f.0 bs) (spelled (length f.0) f.1) (fixed fs bs)
+    either (starts f.0 bs)
     (record { text = fixed-shape f.1 (take (length f.0) bs) parts.0 })
     (fixed-text fs bs parts.1)
 
 quoted-text : (bs rest : List ℕ) (q : ℕ) → HasText (quoted q rest) bs
 quoted-text bs rest q =
-    either bs (nat_lt (before_quote q rest) (length rest)) (spelled (before_quote q rest + 2) Foreign) (spelled 1 Broken)
-    (record { text = tt }) (record { text = tt })
+    either (nat_lt (before_quote q rest) (length rest)) (record { text = tt }) (record { text = tt })
 
 spell-text : (bs : List ℕ) → HasText (spell bs) bs
 spell-text bs =
-    let word = word_of (word_run bs) in
-    let number = spelled (number_length bs) (shape_of_number (digit_run bs) (number_length bs)) in
-    let quote = quoted (first bs) (drop 1 bs) in
-    let dots = fixed (dot_operators ++ truth_values) bs in
-    let marks = fixed (pairs ++ singles) bs in
-    either bs (is_letter (first bs)) word (if begins_number bs then number else (if is_quote (first bs) then quote else (if nat_eq (first bs) 46 then dots else marks)))
-    (word-text bs (word_run bs) (nat_le (word_run bs) 63) (IsAscii-from_all _ (word_run-small bs)))
-    (either bs (begins_number bs) number (if is_quote (first bs) then quote else (if nat_eq (first bs) 46 then dots else marks))
-    (number-text bs (digit_run bs) (number_length bs) (nat_eq (digit_run bs) (number_length bs)) refl (IsAscii-from_all _ (digit_run-small bs)))
-    (either bs (is_quote (first bs)) quote (if nat_eq (first bs) 46 then dots else marks)
-    (quoted-text bs (drop 1 bs) (first bs))
-    (either bs (nat_eq (first bs) 46) dots marks
-    (fixed-text (dot_operators ++ truth_values) bs refl)
-    (fixed-text (pairs ++ singles) bs refl))))
+    either (is_letter (first bs)) (word-text bs (word_run bs) (nat_le (word_run bs) 63) (IsAscii-from_all _ (word_run-small bs)))
+    (either (begins_number bs) (number-text bs (digit_run bs) (number_length bs) (nat_eq (digit_run bs) (number_length bs)) refl (IsAscii-from_all _ (digit_run-small bs)))
+    (either (is_quote (first bs)) (quoted-text bs (drop 1 bs) (first bs))
+    (either (nat_eq (first bs) 46) (fixed-text (dot_operators ++ truth_values) bs refl) (fixed-text (pairs ++ singles) bs refl))))
 
 pub piece-text : (bytes : List ℕ) (at : ℕ) (s : Spelled) → s ≡ spell (take (length bytes - at) (drop at bytes)) → IsText s.shape (take (at + s.size - at) (drop at bytes))
 piece-text bytes at s is =

@@ -23,7 +23,13 @@ kept limit last begun = if is_kept limit last then ended begun else []
 -- the tokens of the statement that a piece ends
 abbrev pub completes : Option ℕ → List Token → ℕ → Shape → List Token
 completes limit begun line shape.Separator = kept limit line begun
-completes limit begun line _ = []
+completes limit begun line shape.Word = []
+completes limit begun line shape.Digits = []
+completes limit begun line (shape.Sign s) = []
+completes limit begun line shape.Foreign = []
+completes limit begun line shape.Directive = []
+completes limit begun line shape.Blank = []
+completes limit begun line shape.Broken = []
 
 -- what stands of the statement after a piece
 abbrev pub goes_on : List Token → ℕ → Shape → List ℕ → List Token

@@ -37,8 +37,14 @@ pieces = pieces_after 0
 -- ---- the lines that break the source form
 
 abbrev pub breaks_of : ℕ → Shape → List ℕ
+breaks_of n shape.Word = []
+breaks_of n shape.Digits = []
+breaks_of n (shape.Sign s) = []
+breaks_of n shape.Foreign = []
+breaks_of n shape.Directive = []
+breaks_of n shape.Separator = []
+breaks_of n shape.Blank = []
 breaks_of n shape.Broken = n ∷ []
-breaks_of n _ = []
 
 abbrev pub breaks : List Piece → List ℕ
 breaks [] = []
@@ -61,7 +67,13 @@ before_first p (s ∷ ss) = record { pieces = p ∷ s.pieces; last = s.last } �
 
 abbrev pub closed : ℕ → Shape → List Statement → List Statement
 closed n shape.Separator ss = record { pieces = []; last = n } ∷ ss
-closed n _ ss = ss
+closed n shape.Word ss = ss
+closed n shape.Digits ss = ss
+closed n (shape.Sign s) ss = ss
+closed n shape.Foreign ss = ss
+closed n shape.Directive ss = ss
+closed n shape.Blank ss = ss
+closed n shape.Broken ss = ss
 
 abbrev pub statements : List Piece → List Statement
 statements [] = []

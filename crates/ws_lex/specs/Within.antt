@@ -11,4 +11,9 @@ pub record IsWithin (s : Spelled) (bytes : List ℕ) : Type 0 where
 abbrev pub IsText : Shape → List ℕ → Type 0
 IsText shape.Word bytes = IsAscii bytes
 IsText shape.Digits bytes = IsAscii bytes
-IsText _ bytes = Unit {0}
+IsText (shape.Sign s) bytes = Unit {0}
+IsText shape.Foreign bytes = Unit {0}
+IsText shape.Directive bytes = Unit {0}
+IsText shape.Separator bytes = Unit {0}
+IsText shape.Blank bytes = Unit {0}
+IsText shape.Broken bytes = Unit {0}

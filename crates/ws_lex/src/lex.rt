@@ -58,32 +58,6 @@ fn token(line: u32, what: TokenKind) -> Token
     }
 }
 
-/// The statement so far, with the token that a piece is.
-fn with_piece(
-    alloc: Global,
-    begun: TokenList,
-    line: u32,
-    shape: Shape,
-    bytes: &[u8],
-) -> Result<TokenList, AllocError>
-    requires { IsText shape bytes.now }
-    ensures { IfOk result (λ ts. ts ≡ begun ++ tokens.token_of line shape bytes.now) }
-{
-    let mut begun = begun;
-    match shape {
-        Shape::Word => begun.push(token(line, TokenKind::Word(Name::from_bytes(alloc, bytes)?)))?,
-        Shape::Digits => begun.push(token(
-            line,
-            TokenKind::Digits(Name::from_bytes(alloc, bytes)?),
-        ))?,
-        Shape::Sign(sign) => begun.push(token(line, TokenKind::Sign(sign)))?,
-        Shape::Foreign => begun.push(token(line, TokenKind::Foreign))?,
-        Shape::Directive => begun.push(token(line, TokenKind::Directive))?,
-        Shape::Separator | Shape::Blank | Shape::Broken => {}
-    }
-    Ok(begun)
-}
-
 /// With the last token marked.
 fn ended(begun: TokenList) -> Result<TokenList, AllocError>
     ensures { IfOk result (λ ts. ts ≡ tokens.ended begun) }
@@ -139,13 +113,23 @@ fn take_piece(
     ensures out { OnOk result (out.new ≡ out.old ++ steps.completes limit begun line shape) }
     ensures begun { IfOk result (λ ts. ts ≡ steps.goes_on begun line shape bytes.now) }
 {
+    let mut begun = begun;
     match shape {
         Shape::Separator => {
             put_statement(out, limit, line, begun)?;
-            Ok(Items::new(alloc))
+            return Ok(Items::new(alloc));
         }
-        _ => with_piece(alloc, begun, line, shape, bytes),
+        Shape::Word => begun.push(token(line, TokenKind::Word(Name::from_bytes(alloc, bytes)?)))?,
+        Shape::Digits => begun.push(token(
+            line,
+            TokenKind::Digits(Name::from_bytes(alloc, bytes)?),
+        ))?,
+        Shape::Sign(sign) => begun.push(token(line, TokenKind::Sign(sign)))?,
+        Shape::Foreign => begun.push(token(line, TokenKind::Foreign))?,
+        Shape::Directive => begun.push(token(line, TokenKind::Directive))?,
+        Shape::Blank | Shape::Broken => {}
     }
+    Ok(begun)
 }
 
 /// The tokens of the statements that end on a line before the limit.

@@ -12,13 +12,6 @@ pub enum LineKind {
     Code,
 }
 
-/// A byte of the text, and the line on which it stands.
-#[derive(Clone, Copy, Debug, PartialEq, Eq)]
-pub struct Cell {
-    pub byte: u8,
-    pub line: u32,
-}
-
 /// What stands of a statement that goes on: its text so far, and the line of the `&`.
 #[derive(Drop)]
 pub struct Front {
@@ -31,6 +24,13 @@ pub struct Front {
 pub struct Text {
     pub cells: Items<Cell>,
     pub end: u32,
+}
+
+/// A byte of the text, and the line on which it stands.
+#[derive(Clone, Copy, Debug, PartialEq, Eq)]
+pub struct Cell {
+    pub byte: u8,
+    pub line: u32,
 }
 
 /// What a piece of the text is: a token, the `;` after a statement, a blank, or what breaks the source form.
