@@ -1,0 +1,4 @@
+pub mod Moves
+pub mod Loops
+pub mod Laws
+pub mod Sets

@@ -1,0 +1,3 @@
+pub mod Segments
+pub mod Compiled
+pub mod Acts
