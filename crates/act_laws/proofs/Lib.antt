@@ -1,0 +1,10 @@
+pub mod Columns
+pub mod Fetching
+pub mod Following
+pub mod Guards
+pub mod Loops
+pub mod Plainness
+pub mod Seating
+pub mod Strands
+pub mod Sure
+pub mod Words

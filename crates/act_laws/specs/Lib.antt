@@ -1,0 +1,6 @@
+pub mod Together
+pub mod Seats
+pub mod Strands
+pub mod Fetches
+pub mod Words
+pub mod Loops
