@@ -8,7 +8,7 @@ use Rattle.hlfir_ops.specs.Opened.{trees_open}
 use Rattle.hlfir_ops.specs.Numbers.{names_in, own_numbers, op_numbers, ops_numbers, numbers_of, numbers_in}
 use Rattle.hlfir_ops.proofs.Numbered.{ops_numbers-list, op_numbers-parts}
 use Rattle.hlfir_text.specs.declared.form.Form.{Form}
-use Rattle.hlfir_text.specs.OperandText.{yields_in}
+use Rattle.hlfir_text.specs.OpText.{yields_in}
 use Rattle.hlfir_text.specs.ModuleText.{head_text, lone_part, opening, depth_in, count, op_text, regions_text, ops_text, lines_of, region_lines, lines_in}
 
 -- ---- trees

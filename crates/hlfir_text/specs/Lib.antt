@@ -1,4 +1,5 @@
 pub mod KindText
 pub mod ModuleText
+pub mod OpText
 pub mod OperandText
 pub mod WordText

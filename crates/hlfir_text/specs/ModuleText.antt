@@ -1,12 +1,7 @@
 -- A module as text. An op that breaks rules has a text too: its regions stand between braces in their order.
 use Rattle.std.specs.Prelude.{ℕ, zero, suc, ◌+◌, ◌==◌, if◌then◌else◌, List, [], ◌∷◌, ◌++◌, length, ℤ, Option, Some, None, codes, decimal}
-use Rattle.std.specs.Fmt.{signed_decimal}
 use mathlib.Core.Former.{Count}
-use Rattle.ws_base.specs.Numbers.{is_true}
-use Rattle.ws_base.specs.declared.name.Name.{Name}
-use Rattle.hlfir_ops.specs.declared.kinds.Elem.TheVariants.{I1}
 use Rattle.hlfir_ops.specs.declared.kinds.ValueKind.{ValueKind}
-use Rattle.hlfir_ops.specs.declared.kinds.ValueKind.TheVariants as kind
 use Rattle.hlfir_ops.specs.declared.what.What.{What}
 use Rattle.hlfir_ops.specs.declared.what.What.TheVariants as what
 use Rattle.hlfir_ops.specs.declared.op.ValueId.{ValueId}
@@ -19,13 +14,8 @@ use Rattle.hlfir_ops.specs.Trees.{Ops, end_ops, more_ops, Regions, end_regions, 
 use Rattle.hlfir_text.specs.declared.form.Form.{Form}
 use Rattle.hlfir_text.specs.declared.form.Form.TheVariants.{Listed}
 use Rattle.hlfir_text.specs.KindText.{kind_part}
-use Rattle.hlfir_text.specs.OperandText.{value_text, comma, operands_text, yields_in}
-use Rattle.hlfir_text.specs.WordText.{word, mark}
-
--- two blanks for each region
-abbrev pub indent : ℕ → List ℕ
-indent zero = []
-indent (suc depth) = indent depth ++ codes "  "
+use Rattle.hlfir_text.specs.OperandText.{value_text}
+pub use Rattle.hlfir_text.specs.OpText.{indent, name_text, names_text, index_text, truth_word, constant_text, word, mark, own_part, operands_text, yields_in, between}
 
 -- ---- the line of an op
 
@@ -35,19 +25,6 @@ result_part number (Some k) = value_text number ++ codes " = "
 
 abbrev pub line_part : What → ℕ → List ℕ
 line_part w line = if has_line w then codes " @" ++ decimal line else []
-
-abbrev pub truth_word : ℤ → List ℕ
-truth_word v = if is_true v then codes "true" else codes "false"
-
-abbrev pub constant_text : Option ValueKind → ℤ → List ℕ
-constant_text (Some (kind.Scalar I1)) v = truth_word v
-constant_text _ v = signed_decimal v
-
--- the name of a variable, or the value of a constant
-abbrev pub own_part : What → Option ValueKind → List ℕ
-own_part (what.Declare name) k = codes " \"" ++ name ++ codes "\""
-own_part (what.Constant v) k = codes " " ++ constant_text k v
-own_part _ k = []
 
 -- the words of an op between its result and its operands
 abbrev pub words_text : What → ℕ → Option ValueKind → List ℕ
@@ -59,30 +36,10 @@ head_text depth yields number w line operands k = indent depth ++ result_part nu
 
 -- ---- regions
 
-abbrev pub name_text : ℕ → Name → List ℕ
-name_text number x = value_text number ++ codes " \"" ++ x ++ codes "\""
-
--- the index names of a FORALL, of which the first has this place and this number
-abbrev pub names_text : ℕ → ℕ → List Name → List ℕ
-names_text k number [] = []
-names_text k number (x ∷ xs) = comma k ++ name_text number x ++ names_text (suc k) (suc number) xs
-
--- the line between its two regions
-abbrev pub index_text : ℕ → ℕ → List Name → List ℕ
-index_text depth number names = indent depth ++ codes "} index " ++ names_text 0 number names ++ codes " {\n"
-
 -- ELSEWHERE without a mask has one region
 abbrev pub lone_part : What → ℕ → List ℕ
 lone_part what.Elsewhere count = if count == 1 then codes " do" else []
 lone_part _ count = []
-
--- what stands between two regions; the third one of a WHERE has no braces
-abbrev pub between : ℕ → What → ℕ → ℕ → List ℕ
-between depth (what.Assign realloc) number k = indent depth ++ codes "} to {\n"
-between depth what.Masked number k = if k == 1 then indent depth ++ codes "} do {\n" else []
-between depth what.Elsewhere number k = indent depth ++ codes "} do {\n"
-between depth (what.Forall names) number k = index_text depth number (names_in (what.Forall names) k)
-between depth _ number k = indent depth ++ codes "} {\n"
 
 -- what stands before the region of this number, counted from 0, whose first value has this number
 abbrev pub opening : ℕ → What → ℕ → ℕ → List ℕ

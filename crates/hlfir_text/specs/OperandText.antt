@@ -1,8 +1,6 @@
 -- Operands as text. One that is missing is left out, and one that is too many for a designator too.
 use Rattle.std.specs.Prelude.{ℕ, suc, ◌%◌, ◌==◌, if◌then◌else◌, List, [], ◌∷◌, ◌++◌, take, drop, codes, decimal}
 use Rattle.hlfir_ops.specs.declared.op.ValueId.{ValueId}
-use Rattle.hlfir_ops.specs.declared.what.What.{What}
-use Rattle.hlfir_ops.specs.declared.what.What.TheVariants as what
 use Rattle.hlfir_ops.specs.declared.what.SubKind.{SubKind}
 use Rattle.hlfir_ops.specs.declared.what.SubKind.TheVariants as sub
 use Rattle.hlfir_text.specs.declared.form.Form.{Form}
@@ -42,8 +40,9 @@ width sub.Range = 3
 width sub.Vector = 1
 
 abbrev pub sub_word : SubKind → List ℕ
+sub_word sub.One = []
+sub_word sub.Range = []
 sub_word sub.Vector = codes "vector "
-sub_word _ = []
 
 abbrev pub comma : ℕ → List ℕ
 comma k = if k == 0 then [] else codes ", "
@@ -55,19 +54,3 @@ subs_text k (s ∷ ss) operands = comma k ++ sub_word s ++ values_text Triplet 0
 
 abbrev pub designator_text : List SubKind → List ValueId → List ℕ
 designator_text subs operands = values_text Listed 0 (take 1 operands) ++ codes " (" ++ subs_text 0 subs (drop 1 operands) ++ codes ")"
-
--- ---- all
-
--- the operands of an op; `yields` is the form of a yield's at its place
-abbrev pub operands_text : Form → What → List ValueId → List ℕ
-operands_text yields what.Yield operands = values_text yields 0 operands
-operands_text yields (what.Bound w dim) operands = values_text Listed 0 operands ++ codes ", " ++ decimal dim
-operands_text yields (what.Designate subs) operands = designator_text subs operands
-operands_text yields what.Vector operands = values_text Spaced 0 operands
-operands_text yields _ operands = values_text Listed 0 operands
-
--- the form of the yields in an op's regions
-abbrev pub yields_in : What → Form
-yields_in (what.Forall names) = Triples
-yields_in (what.Allocmem also) = Pairs
-yields_in _ = Listed

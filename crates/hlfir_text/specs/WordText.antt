@@ -1,7 +1,5 @@
--- The fixed words of ops.
-use Rattle.std.specs.Prelude.{ℕ, true, List, [], codes}
-use Rattle.hlfir_ops.specs.declared.what.What.{What}
-use Rattle.hlfir_ops.specs.declared.what.What.TheVariants as what
+-- The words of operations, bounds and reductions.
+use Rattle.std.specs.Prelude.{ℕ, List, codes}
 use Rattle.hlfir_ops.specs.declared.what.ValueUnary.{ValueUnary}
 use Rattle.hlfir_ops.specs.declared.what.ValueUnary.TheVariants as unary
 use Rattle.hlfir_ops.specs.declared.what.ValueBinary.{ValueBinary}
@@ -52,42 +50,3 @@ reduction_word reduction.Maxval = codes "hlfir.maxval"
 reduction_word reduction.Count = codes "hlfir.count"
 reduction_word reduction.Any = codes "hlfir.any"
 reduction_word reduction.All = codes "hlfir.all"
-
--- the line of an ELSEWHERE begins by closing the block before it
-abbrev pub word : What → List ℕ
-word (what.Declare name) = codes "hlfir.declare"
-word (what.Assign realloc) = codes "hlfir.region_assign"
-word what.Masked = codes "hlfir.where"
-word what.Elsewhere = codes "} elsewhere"
-word (what.Forall names) = codes "hlfir.forall"
-word what.ForallMask = codes "hlfir.forall_mask"
-word what.Workshare = codes "omp.workshare"
-word what.DoLoop = codes "fir.do_loop"
-word (what.Allocmem also) = codes "fir.allocmem"
-word (what.Freemem also) = codes "fir.freemem"
-word (what.Read also) = codes "ws.read"
-word what.Yield = codes "hlfir.yield"
-word what.YieldElement = codes "hlfir.yield_element"
-word (what.Constant value) = codes "arith.constant"
-word (what.Unary op) = unary_word op
-word (what.Binary op) = binary_word op
-word what.Select = codes "arith.select"
-word what.Load = codes "hlfir.load"
-word what.Boxed = codes "hlfir.box"
-word (what.Bound w dim) = bound_word w
-word what.Size = codes "hlfir.size"
-word what.Allocated = codes "hlfir.allocated"
-word (what.Designate subs) = codes "hlfir.designate"
-word what.Vector = codes "hlfir.vector"
-word what.AsExpr = codes "hlfir.as_expr"
-word what.Elemental = codes "hlfir.elemental"
-word what.Apply = codes "hlfir.apply"
-word (what.Reduce r) = reduction_word r
-
--- what stands after the line
-abbrev pub mark : What → List ℕ
-mark (what.Assign true) = codes " realloc"
-mark (what.Allocmem true) = codes " also"
-mark (what.Freemem true) = codes " also"
-mark (what.Read true) = codes " also"
-mark _ = []

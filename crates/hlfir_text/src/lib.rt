@@ -1,4 +1,6 @@
 //! A module as text.
+//!
+//! Read `specs/ModuleText.antt` first (the text of a module), then `specs/OpText.antt` (what each op adds).
 #![tactic(auto)]
 
 mod form;

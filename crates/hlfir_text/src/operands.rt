@@ -1,6 +1,7 @@
 //! Operands as text.
 
 ghost use Rattle.std.specs.Prelude.{◌≡◌, ◌++◌, OnOk, take, drop};
+ghost use Rattle.hlfir_text.specs.OpText as ops;
 ghost use Rattle.hlfir_text.specs.OperandText as operands;
 
 use crate::form::Form;
@@ -78,8 +79,8 @@ fn sub_word(sub: SubKind) -> &'static [u8]
     ensures { result.now ≡ operands.sub_word sub }
 {
     match sub {
+        SubKind::One | SubKind::Range => b"",
         SubKind::Vector => b"vector ",
-        _ => b"",
     }
 }
 
@@ -146,7 +147,7 @@ pub fn put_operands(
     what: &What,
     values: &[ValueId],
 ) -> Result<(), AllocError>
-    ensures { OnOk result (text.new.items ≡ text.old.items ++ operands.operands_text yields what.now values.now) }
+    ensures { OnOk result (text.new.items ≡ text.old.items ++ ops.operands_text yields what.now values.now) }
 {
     match what {
         What::Yield => put_values(text, yields, values),
@@ -163,7 +164,7 @@ pub fn put_operands(
 
 /// The form of the yields in an op's regions.
 pub fn yields_in(what: &What) -> Form
-    ensures { result ≡ operands.yields_in what.now }
+    ensures { result ≡ ops.yields_in what.now }
 {
     match what {
         What::Forall(_) => Form::Triples,

@@ -2,6 +2,7 @@
 
 ghost use Rattle.std.specs.Prelude.{◌≡◌};
 ghost use Rattle.hlfir_text.specs.WordText as words;
+ghost use Rattle.hlfir_text.specs.OpText as ops;
 
 use hlfir_ops::{BoundWord, Reduction, ValueBinary, ValueUnary, What};
 
@@ -69,7 +70,7 @@ fn reduction_word(reduction: Reduction) -> &'static str
 
 /// The word of an op. The line of an ELSEWHERE begins by closing the block before it.
 pub fn word(what: &What) -> &'static str
-    ensures { result.now ≡ words.word what.now }
+    ensures { result.now ≡ ops.word what.now }
 {
     match what {
         What::Declare(_) => "hlfir.declare",
@@ -105,13 +106,13 @@ pub fn word(what: &What) -> &'static str
 
 /// What stands after the line of an op.
 pub fn mark(what: &What) -> &'static str
-    ensures { result.now ≡ words.mark what.now }
+    ensures { result.now ≡ ops.mark what.now }
 {
     match what {
-        What::Assign { realloc: true } => " realloc",
-        What::Allocmem { also: true } => " also",
-        What::Freemem { also: true } => " also",
-        What::Read { also: true } => " also",
+        What::Assign { realloc } => { if *realloc { " realloc" } else { "" } }
+        What::Allocmem { also } | What::Freemem { also } | What::Read { also } => {
+            if *also { " also" } else { "" }
+        }
         _ => "",
     }
 }
