@@ -4,6 +4,9 @@ use crate::expr::{Expr, ExprList};
 use sqlite_items::Items;
 use ws_base::Name;
 
+/// The names of DEALLOCATE.
+pub type NameList = Items<Name>;
+
 /// The bounds of one dimension: `u`, `l:u`, or `:` alone.
 #[derive(Debug, Drop)]
 pub enum Bound {
@@ -37,9 +40,6 @@ pub struct Index {
 }
 
 pub type IndexList = Items<Index>;
-
-/// The names of DEALLOCATE.
-pub type NameList = Items<Name>;
 
 /// An array that ALLOCATE allocates.
 #[derive(Debug, Drop)]
