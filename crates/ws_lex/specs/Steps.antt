@@ -22,23 +22,23 @@ kept limit last begun = if is_kept limit last then ended begun else []
 
 -- the tokens of the statement that a piece ends
 abbrev pub completes : Option ℕ → List Token → ℕ → Shape → List Token
-completes limit begun line shape.Separator = kept limit line begun
 completes limit begun line shape.Word = []
 completes limit begun line shape.Digits = []
 completes limit begun line (shape.Sign s) = []
 completes limit begun line shape.Foreign = []
 completes limit begun line shape.Directive = []
+completes limit begun line shape.Separator = kept limit line begun
 completes limit begun line shape.Blank = []
 completes limit begun line shape.Broken = []
 
 -- what stands of the statement after a piece
 abbrev pub goes_on : List Token → ℕ → Shape → List ℕ → List Token
-goes_on begun line shape.Separator bytes = []
 goes_on begun line shape.Word bytes = begun ++ token_of line shape.Word bytes
 goes_on begun line shape.Digits bytes = begun ++ token_of line shape.Digits bytes
 goes_on begun line (shape.Sign s) bytes = begun ++ token_of line (shape.Sign s) bytes
 goes_on begun line shape.Foreign bytes = begun ++ token_of line shape.Foreign bytes
 goes_on begun line shape.Directive bytes = begun ++ token_of line shape.Directive bytes
+goes_on begun line shape.Separator bytes = []
 goes_on begun line shape.Blank bytes = begun ++ token_of line shape.Blank bytes
 goes_on begun line shape.Broken bytes = begun ++ token_of line shape.Broken bytes
 

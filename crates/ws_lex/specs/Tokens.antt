@@ -66,12 +66,12 @@ before_first p [] = []
 before_first p (s ∷ ss) = record { pieces = p ∷ s.pieces; last = s.last } ∷ ss
 
 abbrev pub closed : ℕ → Shape → List Statement → List Statement
-closed n shape.Separator ss = record { pieces = []; last = n } ∷ ss
 closed n shape.Word ss = ss
 closed n shape.Digits ss = ss
 closed n (shape.Sign s) ss = ss
 closed n shape.Foreign ss = ss
 closed n shape.Directive ss = ss
+closed n shape.Separator ss = record { pieces = []; last = n } ∷ ss
 closed n shape.Blank ss = ss
 closed n shape.Broken ss = ss
 
