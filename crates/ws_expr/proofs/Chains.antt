@@ -19,39 +19,28 @@ weaker h (primary p) = primary p
 weaker h (signed j low d) = signed j (omega arith) d
 weaker h (joined j low d f) = joined j (omega arith) d f
 
+operands_within : (op : BinOp) → (left_rank op ≤ rank op) × (right_rank op ≤ rank op)
+operands_within binop.Pow = (omega arith, omega arith)
+operands_within binop.Mul = (omega arith, omega arith)
+operands_within binop.Div = (omega arith, omega arith)
+operands_within binop.Add = (omega arith, omega arith)
+operands_within binop.Sub = (omega arith, omega arith)
+operands_within binop.Eq = (omega arith, omega arith)
+operands_within binop.Ne = (omega arith, omega arith)
+operands_within binop.Lt = (omega arith, omega arith)
+operands_within binop.Le = (omega arith, omega arith)
+operands_within binop.Gt = (omega arith, omega arith)
+operands_within binop.Ge = (omega arith, omega arith)
+operands_within binop.And = (omega arith, omega arith)
+operands_within binop.Or = (omega arith, omega arith)
+operands_within binop.Eqv = (omega arith, omega arith)
+operands_within binop.Neqv = (omega arith, omega arith)
+
 pub left_within : (op : BinOp) → left_rank op ≤ rank op
-left_within binop.Pow = omega arith
-left_within binop.Mul = omega arith
-left_within binop.Div = omega arith
-left_within binop.Add = omega arith
-left_within binop.Sub = omega arith
-left_within binop.Eq = omega arith
-left_within binop.Ne = omega arith
-left_within binop.Lt = omega arith
-left_within binop.Le = omega arith
-left_within binop.Gt = omega arith
-left_within binop.Ge = omega arith
-left_within binop.And = omega arith
-left_within binop.Or = omega arith
-left_within binop.Eqv = omega arith
-left_within binop.Neqv = omega arith
+left_within op = (operands_within op).0
 
 pub right_within : (op : BinOp) → right_rank op ≤ rank op
-right_within binop.Pow = omega arith
-right_within binop.Mul = omega arith
-right_within binop.Div = omega arith
-right_within binop.Add = omega arith
-right_within binop.Sub = omega arith
-right_within binop.Eq = omega arith
-right_within binop.Ne = omega arith
-right_within binop.Lt = omega arith
-right_within binop.Le = omega arith
-right_within binop.Gt = omega arith
-right_within binop.Ge = omega arith
-right_within binop.And = omega arith
-right_within binop.Or = omega arith
-right_within binop.Eqv = omega arith
-right_within binop.Neqv = omega arith
+right_within op = (operands_within op).1
 
 -- an operator whose left operand may be a power is none itself
 pub past_power : (after : BinOp) → 1 ≤ left_rank after → 2 ≤ rank after

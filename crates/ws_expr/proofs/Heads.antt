@@ -1,5 +1,5 @@
 -- What the first token says of what is read.
-use Rattle.std.proofs.Common.{◌≡◌, ◌≢◌, ◌≤◌, ◌+◌, ℕ, Option, Some, None, List, [], ◌∷◌, refl, sym, ap, ◌∙◌, subst, arith, true, false, Result, Ok, Err, IfOk}
+use Rattle.std.proofs.Common.{◌≡◌, ◌≢◌, ◌≤◌, ◌+◌, ℕ, Bool, Option, Some, None, List, [], ◌∷◌, refl, sym, ap, ◌∙◌, subst, arith, true, false, Result, Ok, Err, IfOk}
 use Rattle.std.proofs.lemmas.Bool.Decides.{nat_tests}
 use Rattle.std.proofs.lemmas.Result.{err_from_is_err_and}
 use Rattle.std.specs.Result.{IsErrAnd}
@@ -25,12 +25,12 @@ use Rattle.ws_expr.specs.Grammar.Primary.{number, yes, no, named, subscripted, c
 use Rattle.ws_expr.specs.Grammar.ReadsArguments.{none, some}
 use Rattle.ws_expr.specs.Grammar.ReadsAll.{first, next}
 use Rattle.ws_expr.specs.Grammar.ReadsMaybe.{absent, present}
-use Rattle.ws_expr.specs.Parsing.{Stops, Head, Joins, Leads, next_op, admitted, first_op, preceding, Follows, closing, Closes, closes, ending, EndsPart, ends_part, listing, EndsSub, closing_subs, ClosesSubs, closes_subs, Answers, Refuses, Opened}
+use Rattle.ws_expr.specs.Parsing.{Stops, Head, Joins, Leads, next_op, admitted, first_op, preceding, Follows, first_is, closing, Closes, ending, EndsPart, ends_part, listing, EndsSub, closing_subs, ClosesSubs, closes_subs, Answers, Refuses, Opened}
 use Rattle.ws_expr.specs.Parsing.Head.{of_power, of_sign}
 use Rattle.ws_expr.specs.Parsing.Opened.{of_call, of_part}
 use Rattle.ws_expr.proofs.Chains.{Chain, weaker, left_within, Spine, stops_at, stops_less, right_within, right_ends, operand_within, past_power}
 use Rattle.ws_expr.proofs.Chains.Chain.{done, step}
-use Rattle.ws_expr.proofs.Lists.{More}
+use Rattle.ws_expr.proofs.Lists.{More, same_rest}
 use Rattle.ws_expr.proofs.Lists.More.{no_more, comma}
 use Rattle.ws_expr.proofs.Powers.{raises}
 
@@ -79,25 +79,93 @@ pub goes_none : {r m : ℕ} {a e : Reading Expr} {ts rest : List Token} → next
 goes_none h done = (refl, refl)
 goes_none {r = r} {m = m} h (step {op = op} j n l d more) = let no : Some op ≡ None = sym (ap (admitted m r) j ∙ admitted_some m r op n l) ∙ h in absurd cc
 
+-- ---- the first token of a primary
+
+pub record InParens (us : List Token) (e : Reading Expr) (rest : List Token) : Type 0 where
+  pub a : Reading Expr
+  pub after : List Token
+  pub is : paren a ≡ e
+  pub read : Reads 8 us a after
+  pub closes : Follows sign.Close after rest
+
+-- a list up to its bracket, and what is made of it
+pub record ListAt {A : Type 0} (close : Sign') (P : List Token → Gathered A → List Token → Type 0) (made : Gathered A → Reading Expr) (us : List Token) (e : Reading Expr) (rest : List Token) : Type 0 where
+  pub items : Gathered A
+  pub after : List Token
+  pub is : made items ≡ e
+  pub read : P us items after
+  pub closes : Follows close after rest
+
+abbrev InBrackets : Sign' → List Token → Reading Expr → List Token → Type 0
+InBrackets close = ListAt close ReadsAll vector
+
+pub data AtWord (x : List ℕ) (us : List Token) (e : Reading Expr) (rest : List Token) : Type 0 where
+  as_name : leaf (Named x) ≡ e → us ≡ rest → AtWord x us e rest
+  as_opened : (inner : List Token) → Follows sign.Open us inner → Opened x inner e rest → AtWord x us e rest
+
+-- what a primary is that begins with this token
+abbrev Begun : TokenKind → List Token → Reading Expr → List Token → Type 0
+Begun (Digits d) us e rest = (number_of d ≡ e) × (us ≡ rest)
+Begun (Word x) us e rest = AtWord x us e rest
+Begun (Sign sign.True) us e rest = (leaf (Truth true) ≡ e) × (us ≡ rest)
+Begun (Sign sign.False) us e rest = (leaf (Truth false) ≡ e) × (us ≡ rest)
+Begun (Sign sign.Open) us e rest = InParens us e rest
+Begun (Sign sign.OpenSquare) us e rest = InBrackets sign.CloseSquare us e rest
+Begun (Sign sign.OpenSlash) us e rest = InBrackets sign.CloseSlash us e rest
+Begun _ us e rest = ⊥
+
+record Starts (k : TokenKind) (us : List Token) (e : Reading Expr) (rest : List Token) : Type 0 where
+  starts : Begun k us e rest
+
+starts_as : {k k' : TokenKind} {us rest : List Token} {e : Reading Expr} → k ≡ k' → Starts k us e rest → Starts k' us e rest
+starts_as {us = us} {rest = rest} {e = e} is b = subst (λ (k : TokenKind). Starts k us e rest) is b
+
+begun : {e : Reading Expr} {t : Token} {us rest : List Token} → Primary (t ∷ us) e rest → Starts t.what us e rest
+begun (number h) = starts_as (sym h) (record { starts = (refl, refl) })
+begun (yes h) = starts_as (sym h) (record { starts = (refl, refl) })
+begun (no h) = starts_as (sym h) (record { starts = (refl, refl) })
+begun (named h) = starts_as (sym h) (record { starts = as_name refl refl })
+begun (subscripted {p = p} {ts = ts} h n o d c) = starts_as (sym h) (record { starts = as_opened ts (p, o, refl) (of_part n d c) })
+begun (called {p = p} {ts = ts} h n o d c) = starts_as (sym h) (record { starts = as_opened ts (p, o, refl) (of_call n d c) })
+begun {rest = rest} (squared {q = q} {es = es} h d c) = starts_as (sym h) (record { starts = record { items = es; after = q ∷ rest; is = refl; read = d; closes = (q, c, refl) } })
+begun {rest = rest} (slashed {q = q} {es = es} h d c) = starts_as (sym h) (record { starts = record { items = es; after = q ∷ rest; is = refl; read = d; closes = (q, c, refl) } })
+begun {rest = rest} (bracketed {q = q} {e = a} h d c) = starts_as (sym h) (record { starts = record { a = a; after = q ∷ rest; is = refl; read = d; closes = (q, c, refl) } })
+
+pub at_digits : {e : Reading Expr} {t : Token} {us rest : List Token} {d : List ℕ} → t.what ≡ Digits d → Primary (t ∷ us) e rest → (number_of d ≡ e) × (us ≡ rest)
+at_digits h p = (starts_as h (begun p)).starts
+
+pub at_true : {e : Reading Expr} {t : Token} {us rest : List Token} → t.what ≡ Sign sign.True → Primary (t ∷ us) e rest → (leaf (Truth true) ≡ e) × (us ≡ rest)
+at_true h p = (starts_as h (begun p)).starts
+
+pub at_false : {e : Reading Expr} {t : Token} {us rest : List Token} → t.what ≡ Sign sign.False → Primary (t ∷ us) e rest → (leaf (Truth false) ≡ e) × (us ≡ rest)
+at_false h p = (starts_as h (begun p)).starts
+
+pub at_open : {e : Reading Expr} {t : Token} {us rest : List Token} → t.what ≡ Sign sign.Open → Primary (t ∷ us) e rest → InParens us e rest
+at_open h p = (starts_as h (begun p)).starts
+
+pub at_square : {e : Reading Expr} {t : Token} {us rest : List Token} → t.what ≡ Sign sign.OpenSquare → Primary (t ∷ us) e rest → InBrackets sign.CloseSquare us e rest
+at_square h p = (starts_as h (begun p)).starts
+
+pub at_slash : {e : Reading Expr} {t : Token} {us rest : List Token} → t.what ≡ Sign sign.OpenSlash → Primary (t ∷ us) e rest → InBrackets sign.CloseSlash us e rest
+at_slash h p = (starts_as h (begun p)).starts
+
+pub at_word : {e : Reading Expr} {t : Token} {us rest : List Token} {x : List ℕ} → t.what ≡ Word x → Primary (t ∷ us) e rest → AtWord x us e rest
+at_word h p = (starts_as h (begun p)).starts
+
 -- ---- first operands
 
 pub heads_none : {r m : ℕ} {e : Reading Expr} {ts rest : List Token} → first_op r ts ≡ None → Head r m ts e rest → Reads 1 ts e rest × (m ≡ 1)
 heads_none h (of_power d) = (d, refl)
 heads_none {r = r} h (of_sign {op = op} j low d) = let no : Some op ≡ None = sym (ap (preceding r) j ∙ preceding_some r op low) ∙ h in absurd cc
 
-led : (k k' : TokenKind) (op : UnOp) → leading k ≡ Some op → k ≡ k' → leading k' ≡ None → ⊥
-led k k' op j e n = let no : Some op ≡ None = sym j ∙ ap leading e ∙ n in cc
+no_sign : {e : Reading Expr} {us rest : List Token} (k : TokenKind) (op : UnOp) → leading k ≡ Some op → Starts k us e rest → ⊥
+no_sign (Sign sign.Minus) op j b = b.starts
+no_sign (Sign sign.Plus) op j b = b.starts
+no_sign (Sign sign.Not) op j b = b.starts
+no_sign _ op j b = absurd cc
 
 no_primary : {e : Reading Expr} {t : Token} {us rest : List Token} (op : UnOp) → leading t.what ≡ Some op → Primary (t ∷ us) e rest → ⊥
-no_primary op j (number h) = led _ _ op j h refl
-no_primary op j (yes h) = led _ _ op j h refl
-no_primary op j (no h) = led _ _ op j h refl
-no_primary op j (named h) = led _ _ op j h refl
-no_primary op j (subscripted h _ _ _ _) = led _ _ op j h refl
-no_primary op j (called h _ _ _ _) = led _ _ op j h refl
-no_primary op j (squared h _ _) = led _ _ op j h refl
-no_primary op j (slashed h _ _) = led _ _ op j h refl
-no_primary op j (bracketed h _ _) = led _ _ op j h refl
+no_primary op j p = no_sign _ op j (begun p)
 
 -- a power does not begin with a sign
 no_power : {e : Reading Expr} {t : Token} {ts us rest : List Token} (op : UnOp) → leading t.what ≡ Some op → ts ≡ t ∷ us → Reads 1 ts e rest → ⊥
@@ -116,107 +184,6 @@ heads_some {op = op} j (of_power d) = absurd (no_power op j refl d)
 heads_some {us = us} {rest = rest} {op = op} j (of_sign {op = op'} {a = a} j' low d) =
     let same : op' ≡ op = cc in
     subst (λ (o : UnOp). Signed (sign_rank op') o us (unary op' a) rest) same (record { a = a; is = refl; low = refl; read = d })
-
--- ---- primaries
-
-pub at_digits : {e : Reading Expr} {t : Token} {us rest : List Token} {d : List ℕ} → t.what ≡ Digits d → Primary (t ∷ us) e rest → (number_of d ≡ e) × (us ≡ rest)
-at_digits {d = d} h (number {d = d'} h') = let same : d ≡ d' = cc in (ap number_of same, refl)
-at_digits h (yes h') = absurd cc
-at_digits h (no h') = absurd cc
-at_digits h (named h') = absurd cc
-at_digits h (subscripted h' _ _ _ _) = absurd cc
-at_digits h (called h' _ _ _ _) = absurd cc
-at_digits h (squared h' _ _) = absurd cc
-at_digits h (slashed h' _ _) = absurd cc
-at_digits h (bracketed h' _ _) = absurd cc
-
-pub at_true : {e : Reading Expr} {t : Token} {us rest : List Token} → t.what ≡ Sign sign.True → Primary (t ∷ us) e rest → (leaf (Truth true) ≡ e) × (us ≡ rest)
-at_true h (yes h') = (refl, refl)
-at_true h (number h') = absurd cc
-at_true h (no h') = absurd cc
-at_true h (named h') = absurd cc
-at_true h (subscripted h' _ _ _ _) = absurd cc
-at_true h (called h' _ _ _ _) = absurd cc
-at_true h (squared h' _ _) = absurd cc
-at_true h (slashed h' _ _) = absurd cc
-at_true h (bracketed h' _ _) = absurd cc
-
-pub at_false : {e : Reading Expr} {t : Token} {us rest : List Token} → t.what ≡ Sign sign.False → Primary (t ∷ us) e rest → (leaf (Truth false) ≡ e) × (us ≡ rest)
-at_false h (no h') = (refl, refl)
-at_false h (number h') = absurd cc
-at_false h (yes h') = absurd cc
-at_false h (named h') = absurd cc
-at_false h (subscripted h' _ _ _ _) = absurd cc
-at_false h (called h' _ _ _ _) = absurd cc
-at_false h (squared h' _ _) = absurd cc
-at_false h (slashed h' _ _) = absurd cc
-at_false h (bracketed h' _ _) = absurd cc
-
-pub record InParens (us : List Token) (e : Reading Expr) (rest : List Token) : Type 0 where
-  pub a : Reading Expr
-  pub after : List Token
-  pub is : paren a ≡ e
-  pub read : Reads 8 us a after
-  pub closes : Follows sign.Close after rest
-
-pub at_open : {e : Reading Expr} {t : Token} {us rest : List Token} → t.what ≡ Sign sign.Open → Primary (t ∷ us) e rest → InParens us e rest
-at_open {rest = rest} h (bracketed {q = q} {e = a} h' d c) = record { a = a; after = q ∷ rest; is = refl; read = d; closes = (q, c, refl) }
-at_open h (number h') = absurd cc
-at_open h (yes h') = absurd cc
-at_open h (no h') = absurd cc
-at_open h (named h') = absurd cc
-at_open h (subscripted h' _ _ _ _) = absurd cc
-at_open h (called h' _ _ _ _) = absurd cc
-at_open h (squared h' _ _) = absurd cc
-at_open h (slashed h' _ _) = absurd cc
-
-pub record InBrackets (close : Sign') (us : List Token) (e : Reading Expr) (rest : List Token) : Type 0 where
-  pub es : Gathered Expr
-  pub after : List Token
-  pub is : vector es ≡ e
-  pub read : ReadsAll us es after
-  pub closes : Follows close after rest
-
-pub at_square : {e : Reading Expr} {t : Token} {us rest : List Token} → t.what ≡ Sign sign.OpenSquare → Primary (t ∷ us) e rest → InBrackets sign.CloseSquare us e rest
-at_square {rest = rest} h (squared {q = q} {es = es} h' d c) = record { es = es; after = q ∷ rest; is = refl; read = d; closes = (q, c, refl) }
-at_square h (number h') = absurd cc
-at_square h (yes h') = absurd cc
-at_square h (no h') = absurd cc
-at_square h (named h') = absurd cc
-at_square h (subscripted h' _ _ _ _) = absurd cc
-at_square h (called h' _ _ _ _) = absurd cc
-at_square h (slashed h' _ _) = absurd cc
-at_square h (bracketed h' _ _) = absurd cc
-
-pub at_slash : {e : Reading Expr} {t : Token} {us rest : List Token} → t.what ≡ Sign sign.OpenSlash → Primary (t ∷ us) e rest → InBrackets sign.CloseSlash us e rest
-at_slash {rest = rest} h (slashed {q = q} {es = es} h' d c) = record { es = es; after = q ∷ rest; is = refl; read = d; closes = (q, c, refl) }
-at_slash h (number h') = absurd cc
-at_slash h (yes h') = absurd cc
-at_slash h (no h') = absurd cc
-at_slash h (named h') = absurd cc
-at_slash h (subscripted h' _ _ _ _) = absurd cc
-at_slash h (called h' _ _ _ _) = absurd cc
-at_slash h (squared h' _ _) = absurd cc
-at_slash h (bracketed h' _ _) = absurd cc
-
-pub data AtWord (x : List ℕ) (us : List Token) (e : Reading Expr) (rest : List Token) : Type 0 where
-  as_name : leaf (Named x) ≡ e → us ≡ rest → AtWord x us e rest
-  as_opened : (inner : List Token) → Follows sign.Open us inner → Opened x inner e rest → AtWord x us e rest
-
-pub at_word : {e : Reading Expr} {t : Token} {us rest : List Token} {x : List ℕ} → t.what ≡ Word x → Primary (t ∷ us) e rest → AtWord x us e rest
-at_word {x = x} h (named {x = x'} h') = let same : x ≡ x' = cc in as_name (ap (λ (y : List ℕ). leaf (Named y)) same) refl
-at_word {rest = rest} {x = x} h (subscripted {p = p} {x = x'} {ts = ts} {subs = subs} h' n o d c) =
-    let same : x' ≡ x = cc in
-    as_opened ts (p, o, refl) (subst (λ (y : List ℕ). Opened y ts (part x' subs) rest) same (of_part n d c))
-at_word {rest = rest} {x = x} h (called {p = p} {x = x'} {w = w} {ts = ts} {es = es} h' n o d c) =
-    let same : x' ≡ x = cc in
-    as_opened ts (p, o, refl) (subst (λ (y : List ℕ). Opened y ts (call w es) rest) same (of_call n d c))
-at_word h (number h') = absurd cc
-at_word h (yes h') = absurd cc
-at_word h (no h') = absurd cc
-at_word h (squared h' _ _) = absurd cc
-at_word h (slashed h' _ _) = absurd cc
-at_word h (bracketed h' _ _) = absurd cc
 
 -- ---- what ends an expression
 
@@ -275,45 +242,47 @@ ending_stops (Sign sign.Comma) h = (refl, λ e. cc)
 ending_stops (Sign sign.Close) h = (refl, λ e. cc)
 ending_stops _ h = absurd cc
 
-pub stops_ending : (k : ℕ) (ts : List Token) → EndsPart ts → Stops k ts
-stops_ending k [] h = tt
-stops_ending k (t ∷ ts) h = let s = ending_stops t.what h in unjoined t ts k t.what refl s.0 s.1
-
 closing_stops : (k : TokenKind) → closing k ≡ true → (joining k ≡ None) × (k ≢ Sign sign.Open)
 closing_stops (Sign sign.Close) h = (refl, λ e. cc)
 closing_stops (Sign sign.CloseSquare) h = (refl, λ e. cc)
 closing_stops (Sign sign.CloseSlash) h = (refl, λ e. cc)
 closing_stops _ h = absurd cc
 
+pub stops_first : (test : TokenKind → Bool) → ((k : TokenKind) → test k ≡ true → (joining k ≡ None) × (k ≢ Sign sign.Open)) → (k : ℕ) (ts : List Token) → first_is test ts ≡ true → Stops k ts
+stops_first test each k [] h = tt
+stops_first test each k (t ∷ ts) h = let s = each t.what h in unjoined t ts k t.what refl s.0 s.1
+
+pub stops_ending : (k : ℕ) (ts : List Token) → EndsPart ts → Stops k ts
+stops_ending = stops_first ending ending_stops
+
 pub stops_closing : (k : ℕ) (ts : List Token) → Closes ts → Stops k ts
-stops_closing k [] h = tt
-stops_closing k (t ∷ ts) h = let s = closing_stops t.what h in unjoined t ts k t.what refl s.0 s.1
+stops_closing = stops_first closing closing_stops
+
+-- what passes one test passes another
+first_more : (test other : TokenKind → Bool) → ((k : TokenKind) → test k ≡ true → other k ≡ true) → (ts : List Token) → first_is test ts ≡ true → first_is other ts ≡ true
+first_more test other each [] h = h
+first_more test other each (t ∷ ts) h = each t.what h
+
+closed_ends : (k : TokenKind) → closing_subs k ≡ true → (closing k ≡ true) × (listing k ≡ true) × (ending k ≡ true)
+closed_ends (Sign sign.Close) h = (refl, refl, refl)
+closed_ends _ h = absurd cc
+
+listed_ends : (k : TokenKind) → listing k ≡ true → ending k ≡ true
+listed_ends (Sign sign.Comma) h = refl
+listed_ends (Sign sign.Close) h = refl
+listed_ends _ h = absurd cc
 
 -- after an item of a list in brackets
 pub stops_more : {ts rest : List Token} {g es : Gathered Expr} (k : ℕ) → More (Reads 8) g ts es rest → Closes rest → Stops k ts
 stops_more {ts = ts} k no_more h = stops_closing k ts h
-stops_more k (comma {c = c} {us = us} is d more) h = unjoined c us k (Sign sign.Comma) is refl (λ e. cc)
+stops_more {ts = ts} k (comma {us = us} f d more) h = stops_follow k sign.Comma ts us refl (λ e. cc) f
 
 pub ends_more : {ts rest : List Token} {g ss : Gathered Sub} → More ReadsSub g ts ss rest → ClosesSubs rest → EndsSub ts
-ends_more {ts = ts} no_more h = go ts h
-  where
-    one_kind : (k : TokenKind) → closing_subs k ≡ true → listing k ≡ true
-    one_kind (Sign sign.Close) h = refl
-    one_kind _ h = absurd cc
-
-    go : (ts : List Token) → ClosesSubs ts → EndsSub ts
-    go [] h = absurd cc
-    go (t ∷ ts) h = one_kind t.what h
-ends_more (comma is d more) h = ap listing is
+ends_more {ts = ts} no_more h = first_more closing_subs listing (λ k c. (closed_ends k c).1) ts h
+ends_more (comma f d more) h = ap (first_is listing) f.2 ∙ ap listing f.1
 
 pub part_sub : (ts : List Token) → EndsSub ts → EndsPart ts
-part_sub [] h = absurd cc
-part_sub (t ∷ ts) h = go t.what h
-  where
-    go : (k : TokenKind) → listing k ≡ true → ending k ≡ true
-    go (Sign sign.Comma) h = refl
-    go (Sign sign.Close) h = refl
-    go _ h = absurd cc
+part_sub = first_more listing ending listed_ends
 
 pub maybe_absent : {ts rest : List Token} {e : Option (Reading Expr)} → ends_part ts ≡ true → ReadsMaybe ts e rest → (None ≡ e) × (ts ≡ rest)
 maybe_absent h absent = (refl, refl)
@@ -355,19 +324,14 @@ signed_by {r = r} {m = m} {k = k} {a = a} {x = x} {ts = ts} {us = us} {rest = re
 pub unary_as : {r : ℕ} {a b x e : Reading Expr} {ts us : List Token} {op : UnOp} → Leads r ts op us → x ≡ unary op a → a ≡ b → e ≡ unary op b → x ≡ e
 unary_as {op = op} l is p q = is ∙ ap (λ (z : Reading Expr). unary op z) p ∙ sym q
 
-clashes : (k : TokenKind) → closing k ≡ true → k ≡ Sign sign.Comma → ⊥
-clashes k h is = let no = sym (ap closing is) ∙ h in cc
+no_first : (test : TokenKind → Bool) (s : Sign') → test (Sign s) ≡ false → {rest us : List Token} → first_is test rest ≡ true → Follows s rest us → ⊥
+no_first test s n h f = let no = sym h ∙ ap (first_is test) f.2 ∙ ap test f.1 ∙ n in cc
 
 pub no_close : (rest : List Token) → Closes rest → (us : List Token) → Follows sign.Comma rest us → ⊥
-no_close [] h us f = absurd cc
-no_close (t ∷ ts) h us f = let same : t ≡ f.0 = cc (f.2) in clashes t.what h (ap (λ (u : Token). u.what) same ∙ f.1)
-
-clashes_sub : (k : TokenKind) → closing_subs k ≡ true → k ≡ Sign sign.Comma → ⊥
-clashes_sub k h is = let no = sym (ap closing_subs is) ∙ h in cc
+no_close rest h us f = no_first closing sign.Comma refl h f
 
 pub no_close_subs : (rest : List Token) → ClosesSubs rest → (us : List Token) → Follows sign.Comma rest us → ⊥
-no_close_subs [] h us f = absurd cc
-no_close_subs (t ∷ ts) h us f = let same : t ≡ f.0 = cc (f.2) in clashes_sub t.what h (ap (λ (u : Token). u.what) same ∙ f.1)
+no_close_subs rest h us f = no_first closing_subs sign.Comma refl h f
 
 -- ---- primaries at the front of tokens that are known
 
@@ -412,16 +376,13 @@ named_by {t = t} {rest = rest} h is p = subst (λ (z : Reading Expr). Primary (t
 pub digits_by : {t : Token} {rest : List Token} {d : List ℕ} {e : Reading Expr} → t.what ≡ Digits d → e ≡ number_of d → Primary (t ∷ rest) e rest
 digits_by {t = t} {rest = rest} h is = subst (λ (z : Reading Expr). Primary (t ∷ rest) z rest) (sym is) (number h)
 
-same_rest : {s : Sign'} {us a b : List Token} → Follows s us a → Follows s us b → a ≡ b
-same_rest f g = let e = sym f.2 ∙ g.2 in cc
-
 not_open : {us inner rest : List Token} → Follows sign.Open us inner → us ≡ rest → Stops 0 rest → ⊥
 not_open {us = us} {inner = inner} {rest = rest} f e s = let s' = subst (λ (xs : List Token). Stops 0 xs) (sym e ∙ f.2) s in s'.0 f.1
 
 closes_by : {after rest : List Token} → Follows sign.Close after rest → Closes after
-closes_by f = ap closes f.2 ∙ ap closing f.1
+closes_by f = ap (first_is closing) f.2 ∙ ap closing f.1
 
-closes_subs_by : {after rest : List Token} → Follows sign.Close after rest → ClosesSubs after
+pub closes_subs_by : {after rest : List Token} → Follows sign.Close after rest → ClosesSubs after
 closes_subs_by f = ap closes_subs f.2 ∙ ap closing_subs f.1
 
 pub opened_only : {t : Token} {us inner rest : List Token} {x : List ℕ} {e : Reading Expr} →
@@ -440,37 +401,22 @@ name_only {us = us} {rest = rest} {x = x} {y = y} {e = e} h is closed d = go (at
     go (as_name is' end) = (ap (λ (z : List ℕ). leaf (Named z)) is ∙ is', end)
     go (as_opened inner o d') = absurd (closed inner o)
 
-pub record CallAt (w : Callee) (inner : List Token) (e : Reading Expr) (rest : List Token) : Type 0 where
-  pub es : Gathered Expr
-  pub after : List Token
-  pub is : call w es ≡ e
-  pub read : ReadsArguments inner es after
-  pub closes : Follows sign.Close after rest
-  pub ends : ClosesSubs after
-
-pub call_at : {inner rest : List Token} {x : List ℕ} {w : Callee} {e : Reading Expr} → Some w ≡ callee x → Opened x inner e rest → CallAt w inner e rest
+pub call_at : {inner rest : List Token} {x : List ℕ} {w : Callee} {e : Reading Expr} → Some w ≡ callee x → Opened x inner e rest → ListAt sign.Close ReadsArguments (call w) inner e rest
 call_at {rest = rest} {w = w} n (of_call {w = w'} {q = q} {es = es} n' d c) =
     let same : w' ≡ w = cc in
-    record { es = es; after = q ∷ rest; is = ap (λ (v : Callee). call v es) (sym same); read = d; closes = (q, c, refl); ends = ap closing_subs c }
+    record { items = es; after = q ∷ rest; is = ap (λ (v : Callee). call v es) (sym same); read = d; closes = (q, c, refl) }
 call_at n (of_part n' d c) = absurd cc
 
-pub record PartAt (x : List ℕ) (inner : List Token) (e : Reading Expr) (rest : List Token) : Type 0 where
-  pub subs : Gathered Sub
-  pub after : List Token
-  pub is : part x subs ≡ e
-  pub read : ReadsSubs inner subs after
-  pub closes : Follows sign.Close after rest
-  pub ends : ClosesSubs after
-
-pub part_at : {inner rest : List Token} {x : List ℕ} {e : Reading Expr} → None ≡ callee x → Opened x inner e rest → PartAt x inner e rest
-part_at {rest = rest} n (of_part {q = q} {subs = subs} n' d c) = record { subs = subs; after = q ∷ rest; is = refl; read = d; closes = (q, c, refl); ends = ap closing_subs c }
+pub part_at : {inner rest : List Token} {x : List ℕ} {e : Reading Expr} → None ≡ callee x → Opened x inner e rest → ListAt sign.Close ReadsSubs (part x) inner e rest
+part_at {rest = rest} n (of_part {q = q} {subs = subs} n' d c) = record { items = subs; after = q ∷ rest; is = refl; read = d; closes = (q, c, refl) }
 part_at n (of_call n' d c) = absurd cc
 
 pub follows_at : {s : Sign'} {ts ts' rest : List Token} → ts ≡ ts' → Follows s ts' rest → Follows s ts rest
 follows_at {s = s} {rest = rest} e f = (f.0, f.1, e ∙ f.2)
 
-pub call_as : {w : Callee} {inner rest : List Token} {es : Gathered Expr} {e : Reading Expr} (g : CallAt w inner e rest) → es ≡ g.es → call w es ≡ e
-call_as {w = w} g p = ap (λ (xs : Gathered Expr). call w xs) p ∙ g.is
+pub items_as : {A : Type 0} {close : Sign'} {P : List Token → Gathered A → List Token → Type 0} {made : Gathered A → Reading Expr} {us rest : List Token} {e : Reading Expr} {items : Gathered A} →
+    (g : ListAt close P made us e rest) → items ≡ g.items → made items ≡ e
+items_as {made = made} g p = ap made p ∙ g.is
 
 pub part_as : {x y : List ℕ} {ss ts : Gathered Sub} {e : Reading Expr} → y ≡ x → ss ≡ ts → part x ts ≡ e → part y ss ≡ e
 part_as {x = x} {ss = ss} p q r = ap (λ (z : List ℕ). part z ss) p ∙ ap (λ (zs : Gathered Sub). part x zs) q ∙ r
@@ -482,14 +428,6 @@ pub paren_as : {a b x e : Reading Expr} → x ≡ paren a → a ≡ b → paren 
 paren_as is p q = is ∙ ap (λ (y : Reading Expr). paren y) p ∙ q
 
 -- ---- arguments
-
-ends_of_close : (ts : List Token) → closes_subs ts ≡ true → ends_part ts ≡ true
-ends_of_close [] h = absurd cc
-ends_of_close (t ∷ ts) h = go t.what h
-  where
-    go : (k : TokenKind) → closing_subs k ≡ true → ending k ≡ true
-    go (Sign sign.Close) h = refl
-    go _ h = absurd cc
 
 all_begins : {ts rest : List Token} {es : Gathered Expr} → ReadsAll ts es rest → ends_part ts ≡ false
 all_begins (first d) = begins d
@@ -504,25 +442,20 @@ if_ok (Err e) f h = h
 
 pub no_arguments : {ts rest : List Token} {es : Gathered Expr} → closes_subs ts ≡ true → ReadsArguments ts es rest → (empty ≡ es) × (ts ≡ rest)
 no_arguments h none = (refl, refl)
-no_arguments {ts = ts} h (some d) = let p = all_begins d in let q = ends_of_close ts h in absurd cc
+no_arguments {ts = ts} h (some d) = let p = all_begins d in let q = first_more closing_subs ending (λ k c. (closed_ends k c).2) ts h in absurd cc
 
 pub some_arguments : {ts rest : List Token} {es : Gathered Expr} → closes_subs ts ≡ false → ClosesSubs rest → ReadsArguments ts es rest → ReadsAll ts es rest
 some_arguments h s none = absurd cc
 some_arguments h s (some d) = d
 
 pub closes_of : (ts : List Token) → ClosesSubs ts → Closes ts
-closes_of [] h = absurd cc
-closes_of (t ∷ ts) h = go t.what h
-  where
-    go : (k : TokenKind) → closing_subs k ≡ true → closing k ≡ true
-    go (Sign sign.Close) h = refl
-    go _ h = absurd cc
+closes_of = first_more closing_subs closing (λ k c. (closed_ends k c).0)
 
 pub closes_square_by : {after rest : List Token} → Follows sign.CloseSquare after rest → Closes after
-closes_square_by f = ap closes f.2 ∙ ap closing f.1
+closes_square_by f = ap (first_is closing) f.2 ∙ ap closing f.1
 
 pub closes_slash_by : {after rest : List Token} → Follows sign.CloseSlash after rest → Closes after
-closes_slash_by f = ap closes f.2 ∙ ap closing f.1
+closes_slash_by f = ap (first_is closing) f.2 ∙ ap closing f.1
 
 pub stops_close : {after rest : List Token} (k : ℕ) → Follows sign.Close after rest → Stops k after
 stops_close {after = after} k f = stops_closing k after (closes_by f)

@@ -1,8 +1,8 @@
 -- Lists with commas: what is read so far, and what is left.
 use Rattle.std.proofs.Common.{◌≡◌, List, ◌∷◌, refl, sym, ap, ◌∙◌, subst}
+use Rattle.ws_lex.specs.declared.token.Sign.{Sign as Sign'}
 use Rattle.ws_lex.specs.declared.token.Sign.TheVariants as sign
 use Rattle.ws_lex.specs.declared.token.Token.{Token}
-use Rattle.ws_lex.specs.declared.token.TokenKind.TheVariants.{Sign}
 use Rattle.ws_tree.specs.declared.expr.Expr.{Expr}
 use Rattle.ws_tree.specs.declared.expr.Sub.{Sub}
 use Rattle.ws_expr.specs.declared.reading.Reading.{Reading}
@@ -16,8 +16,7 @@ use Rattle.ws_expr.specs.Grammar.ReadsSubs.{first_sub, next_sub}
 -- after `g`, the commas and parts of `ts` give `all`, and `rest` follows them
 pub data More {A : Type 0} (P : List Token → Reading A → List Token → Type 0) : Gathered A → List Token → Gathered A → List Token → Type 0 where
   no_more : {g : Gathered A} {ts : List Token} → More P g ts g ts
-  comma : {c : Token} {us vs rest : List Token} {x : Reading A} {g all : Gathered A} →
-      c.what ≡ Sign sign.Comma → P us x vs → More P (with_one g x) vs all rest → More P g (c ∷ us) all rest
+  comma : {ts us vs rest : List Token} {x : Reading A} {g all : Gathered A} → Follows sign.Comma ts us → P us x vs → More P (with_one g x) vs all rest → More P g ts all rest
 
 pub record Begins {A : Type 0} (P : List Token → Reading A → List Token → Type 0) (ts : List Token) (all : Gathered A) (rest : List Token) : Type 0 where
   pub x : Reading A
@@ -32,8 +31,11 @@ pub record Next {A : Type 0} (P : List Token → Reading A → List Token → Ty
   pub read : P us x after
   pub others : More P (with_one g x) after all rest
 
+pub same_rest : {s : Sign'} {us a b : List Token} → Follows s us a → Follows s us b → a ≡ b
+same_rest f g = let e = sym f.2 ∙ g.2 in cc
+
 module _ {A : Type 0} {P : List Token → Reading A → List Token → Type 0} where
-  then_one : {g all : Gathered A} {x : Reading A} {c : Token} {ts us rest : List Token} → More P g ts all (c ∷ us) → c.what ≡ Sign sign.Comma → P us x rest → More P g ts (with_one all x) rest
+  pub then_one : {g all : Gathered A} {x : Reading A} {ts us vs rest : List Token} → More P g ts all us → Follows sign.Comma us vs → P vs x rest → More P g ts (with_one all x) rest
   then_one no_more is d = comma is d no_more
   then_one (comma is' d' more) is d = comma is' d' (then_one more is d)
 
@@ -41,12 +43,10 @@ module _ {A : Type 0} {P : List Token → Reading A → List Token → Type 0} w
   begins_at {ts' = ts'} {rest = rest} {all = all} b is p q =
       subst (λ (h : Gathered A). More P h ts' all rest) (sym (is ∙ ap (λ (y : Reading A). only y) p)) (subst (λ (xs : List Token). More P (only b.x) xs all rest) (sym q) b.others)
 
-  next_of : {us rest : List Token} {c : Token} {g all : Gathered A} → c.what ≡ Sign sign.Comma → More P g (c ∷ us) all rest → ((vs : List Token) → Follows sign.Comma rest vs → ⊥) → Next P g us all rest
-  next_of {us = us} {c = c} is_comma no_more none = absurd (none us (c, is_comma, refl))
-  next_of is_comma (comma {vs = vs} {x = x} h d others) none = record { x = x; after = vs; read = d; others = others }
-
   pub next_item : {ts us rest : List Token} {g all : Gathered A} → Follows sign.Comma ts us → More P g ts all rest → ((vs : List Token) → Follows sign.Comma rest vs → ⊥) → Next P g us all rest
-  next_item {rest = rest} {g = g} {all = all} f more none = next_of f.1 (subst (λ (xs : List Token). More P g xs all rest) f.2 more) none
+  next_item {us = us} f no_more none = absurd (none us f)
+  next_item {rest = rest} {g = g} {all = all} f (comma {vs = vs} {x = x} h d others) none =
+      subst (λ (xs : List Token). Next P g xs all rest) (same_rest h f) (record { x = x; after = vs; read = d; others = others })
 
   pub next_at : {us ts rest : List Token} {g g' all : Gathered A} {x : Reading A} (n : Next P g us all rest) → g' ≡ with_one g x → x ≡ n.x → ts ≡ n.after → More P g' ts all rest
   next_at {ts = ts} {rest = rest} {g = g} {all = all} n is p q =
@@ -54,15 +54,15 @@ module _ {A : Type 0} {P : List Token → Reading A → List Token → Type 0} w
 
   pub all_read : {ts rest : List Token} {g all : Gathered A} → ((us : List Token) → Follows sign.Comma ts us → ⊥) → More P g ts all rest → (g ≡ all) × (ts ≡ rest)
   all_read none no_more = (refl, refl)
-  all_read none (comma {c = c} {us = us} h d others) = absurd (none us (c, h, refl))
+  all_read none (comma {us = us} f d others) = absurd (none us f)
 
 pub exprs : {ts rest : List Token} {es : Gathered Expr} → ReadsAll ts es rest → Begins (Reads 8) ts es rest
 exprs {rest = rest} (first {e = e} d) = record { x = e; after = rest; read = d; others = no_more }
-exprs (next ds is d) = let b = exprs ds in record { x = b.x; after = b.after; read = b.read; others = then_one b.others is d }
+exprs (next {c = c} ds is d) = let b = exprs ds in record { x = b.x; after = b.after; read = b.read; others = then_one b.others (c, is, refl) d }
 
 pub subscripts : {ts rest : List Token} {ss : Gathered Sub} → ReadsSubs ts ss rest → Begins ReadsSub ts ss rest
 subscripts {rest = rest} (first_sub {s = s} d) = record { x = s; after = rest; read = d; others = no_more }
-subscripts (next_sub ds is d) = let b = subscripts ds in record { x = b.x; after = b.after; read = b.read; others = then_one b.others is d }
+subscripts (next_sub {c = c} ds is d) = let b = subscripts ds in record { x = b.x; after = b.after; read = b.read; others = then_one b.others (c, is, refl) d }
 
 -- ---- and the other way, one part at a time
 

@@ -11,7 +11,7 @@ use Rattle.ws_expr.specs.Readings.{one, range}
 use Rattle.ws_expr.specs.Grammar.{Reads, ReadsSub, ReadsMaybe}
 use Rattle.ws_expr.specs.Grammar.ReadsMaybe.{present}
 use Rattle.ws_expr.specs.Grammar.ReadsSub.{single, bounded, strided, doubled}
-use Rattle.ws_expr.specs.Parsing.{Stops, Follows, ending, EndsPart, listing, EndsSub, ends_sub}
+use Rattle.ws_expr.specs.Parsing.{Stops, Follows, ending, EndsPart, listing, EndsSub, first_is}
 use Rattle.ws_expr.proofs.Heads.{part_sub, stops_ending}
 
 pub data StrideForm (l u : Option (Reading Expr)) (vs : List Token) (s : Reading Sub) (rest : List Token) : Type 0 where
@@ -60,7 +60,7 @@ same_rest : {s : Sign'} {us a b : List Token} → Follows s us a → Follows s u
 same_rest f g = let e = sym f.2 ∙ g.2 in cc
 
 lists_at : {p : Sign'} {ts us rest : List Token} → Follows p ts us → ts ≡ rest → EndsSub rest → listing (Sign p) ≡ true
-lists_at f e h = sym (ap ends_sub (sym e ∙ f.2) ∙ ap listing f.1) ∙ h
+lists_at f e h = sym (ap (first_is listing) (sym e ∙ f.2) ∙ ap listing f.1) ∙ h
 
 pub record Doubled (l : Option (Reading Expr)) (us : List Token) (s : Reading Sub) (rest : List Token) : Type 0 where
   pub e : Reading Expr

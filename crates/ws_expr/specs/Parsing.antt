@@ -73,59 +73,52 @@ pub data Head (r : ℕ) : ℕ → List Token → Reading Expr → List Token →
   of_sign : {t : Token} {op : UnOp} {ts rest : List Token} {a : Reading Expr} →
       leading t.what ≡ Some op → sign_rank op ≤ r → Reads (operand_rank op) ts a rest → Head r (sign_rank op) (t ∷ ts) (unary op a) rest
 
--- what may follow a list in brackets
-abbrev pub closing : TokenKind → Bool
-closing (Sign sign.Close) = true
-closing (Sign sign.CloseSquare) = true
-closing (Sign sign.CloseSlash) = true
-closing _ = false
+-- ---- what may follow
 
-abbrev pub closes : List Token → Bool
-closes [] = false
-closes (t ∷ ts) = closing t.what
-
-abbrev pub Closes : List Token → Type 0
-Closes ts = closes ts ≡ true
-
--- what may follow a part of a subscript
-abbrev pub ending : TokenKind → Bool
-ending (Sign sign.Colon) = true
-ending (Sign sign.DoubleColon) = true
-ending (Sign sign.Comma) = true
-ending (Sign sign.Close) = true
-ending _ = false
-
-abbrev pub ends_part : List Token → Bool
-ends_part [] = false
-ends_part (t ∷ ts) = ending t.what
-
-abbrev pub EndsPart : List Token → Type 0
-EndsPart ts = ends_part ts ≡ true
-
--- what may follow a subscript
-abbrev pub listing : TokenKind → Bool
-listing (Sign sign.Comma) = true
-listing (Sign sign.Close) = true
-listing _ = false
-
-abbrev pub ends_sub : List Token → Bool
-ends_sub [] = false
-ends_sub (t ∷ ts) = listing t.what
-
-abbrev pub EndsSub : List Token → Type 0
-EndsSub ts = ends_sub ts ≡ true
-
--- a list of subscripts stands in round brackets
+-- a list of subscripts, which stands in round brackets
 abbrev pub closing_subs : TokenKind → Bool
 closing_subs (Sign sign.Close) = true
 closing_subs _ = false
 
+-- a list in brackets
+abbrev pub closing : TokenKind → Bool
+closing (Sign sign.CloseSquare) = true
+closing (Sign sign.CloseSlash) = true
+closing k = closing_subs k
+
+-- a subscript
+abbrev pub listing : TokenKind → Bool
+listing (Sign sign.Comma) = true
+listing k = closing_subs k
+
+-- a part of a subscript
+abbrev pub ending : TokenKind → Bool
+ending (Sign sign.Colon) = true
+ending (Sign sign.DoubleColon) = true
+ending k = listing k
+
+-- there is a first token, and it passes the test
+abbrev pub first_is : (TokenKind → Bool) → List Token → Bool
+first_is test [] = false
+first_is test (t ∷ ts) = test t.what
+
 abbrev pub closes_subs : List Token → Bool
-closes_subs [] = false
-closes_subs (t ∷ ts) = closing_subs t.what
+closes_subs = first_is closing_subs
+
+abbrev pub ends_part : List Token → Bool
+ends_part = first_is ending
 
 abbrev pub ClosesSubs : List Token → Type 0
 ClosesSubs ts = closes_subs ts ≡ true
+
+abbrev pub Closes : List Token → Type 0
+Closes ts = first_is closing ts ≡ true
+
+abbrev pub EndsSub : List Token → Type 0
+EndsSub ts = first_is listing ts ≡ true
+
+abbrev pub EndsPart : List Token → Type 0
+EndsPart ts = ends_part ts ≡ true
 
 -- the call or the subscripted name that x and `(` begin, and the tokens after these
 pub data Opened (x : List ℕ) : List Token → Reading Expr → List Token → Type 0 where

@@ -8,70 +8,46 @@ use Rattle.ws_base.specs.declared.op.UnOp.TheVariants as unop
 use Rattle.ws_base.specs.declared.op.BinOp.{BinOp}
 use Rattle.ws_base.specs.declared.op.BinOp.TheVariants as binop
 
--- A primary has rank 0. The higher the rank, the looser the operator binds.
-abbrev pub rank : BinOp → ℕ
-rank binop.Pow = 1
-rank binop.Mul = 2
-rank binop.Div = 2
-rank binop.Add = 3
-rank binop.Sub = 3
-rank binop.Eq = 4
-rank binop.Ne = 4
-rank binop.Lt = 4
-rank binop.Le = 4
-rank binop.Gt = 4
-rank binop.Ge = 4
-rank binop.And = 6
-rank binop.Or = 7
-rank binop.Eqv = 8
-rank binop.Neqv = 8
+-- The greatest rank that the left operand may have, the rank of the operator, and the greatest one that the right operand may have.
+-- A primary has rank 0. The higher the rank, the looser the operator binds. An operator that goes from left to right may have
+-- itself on the left, only powers go from right to left, and a relation stands beside no other.
+abbrev pub ranks : BinOp → ℕ × ℕ × ℕ
+ranks binop.Pow = (0, 1, 1)
+ranks binop.Mul = (2, 2, 1)
+ranks binop.Div = (2, 2, 1)
+ranks binop.Add = (3, 3, 2)
+ranks binop.Sub = (3, 3, 2)
+ranks binop.Eq = (3, 4, 3)
+ranks binop.Ne = (3, 4, 3)
+ranks binop.Lt = (3, 4, 3)
+ranks binop.Le = (3, 4, 3)
+ranks binop.Gt = (3, 4, 3)
+ranks binop.Ge = (3, 4, 3)
+ranks binop.And = (6, 6, 5)
+ranks binop.Or = (7, 7, 6)
+ranks binop.Eqv = (8, 8, 7)
+ranks binop.Neqv = (8, 8, 7)
 
--- the greatest rank that the left operand may have: that of the operator itself where it goes from left to right
 abbrev pub left_rank : BinOp → ℕ
-left_rank binop.Pow = 0
-left_rank binop.Mul = 2
-left_rank binop.Div = 2
-left_rank binop.Add = 3
-left_rank binop.Sub = 3
-left_rank binop.Eq = 3
-left_rank binop.Ne = 3
-left_rank binop.Lt = 3
-left_rank binop.Le = 3
-left_rank binop.Gt = 3
-left_rank binop.Ge = 3
-left_rank binop.And = 6
-left_rank binop.Or = 7
-left_rank binop.Eqv = 8
-left_rank binop.Neqv = 8
+left_rank op = (ranks op).0
 
--- and the right operand: only powers go from right to left
+abbrev pub rank : BinOp → ℕ
+rank op = (ranks op).1
+
 abbrev pub right_rank : BinOp → ℕ
-right_rank binop.Pow = 1
-right_rank binop.Mul = 1
-right_rank binop.Div = 1
-right_rank binop.Add = 2
-right_rank binop.Sub = 2
-right_rank binop.Eq = 3
-right_rank binop.Ne = 3
-right_rank binop.Lt = 3
-right_rank binop.Le = 3
-right_rank binop.Gt = 3
-right_rank binop.Ge = 3
-right_rank binop.And = 5
-right_rank binop.Or = 6
-right_rank binop.Eqv = 7
-right_rank binop.Neqv = 7
+right_rank op = (ranks op).2
 
--- a sign in front is a sum, and its operand a product; `.not.` stands before a relation
+-- The rank of an operator in front, and the greatest one that its operand may have. A sign in front is a sum, and its operand a product; `.not.` stands before a relation.
+abbrev pub ranks_in_front : UnOp → ℕ × ℕ
+ranks_in_front unop.Minus = (3, 2)
+ranks_in_front unop.Plus = (3, 2)
+ranks_in_front unop.Not = (5, 4)
+
 abbrev pub sign_rank : UnOp → ℕ
-sign_rank unop.Minus = 3
-sign_rank unop.Plus = 3
-sign_rank unop.Not = 5
+sign_rank op = (ranks_in_front op).0
 
 abbrev pub operand_rank : UnOp → ℕ
-operand_rank unop.Minus = 2
-operand_rank unop.Plus = 2
-operand_rank unop.Not = 4
+operand_rank op = (ranks_in_front op).1
 
 -- the operator that a token is between two operands
 abbrev pub joining : TokenKind → Option BinOp

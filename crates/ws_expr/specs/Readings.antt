@@ -1,14 +1,15 @@
 -- What is read of an expression: its tree, its depth, and whether it has a call that is left out.
-use Rattle.std.specs.Prelude.{ℕ, min, max, Bool, true, false, not, ◌||◌, Option, Some, None, List, [], ◌∷◌, ◌++◌, ◌+◌, ◌*◌, ◌-◌, nat_lt, nat_le, nat_eq, length, if◌then◌else◌, bytes_eq, codes}
+use Rattle.std.specs.Prelude.{ℕ, min, max, Bool, true, false, not, ◌||◌, Option, Some, None, List, [], ◌∷◌, ◌++◌, ◌+◌, ◌*◌, ◌-◌, nat_lt, if◌then◌else◌, bytes_eq, codes}
 use Rattle.ws_base.specs.declared.op.UnOp.{UnOp}
 use Rattle.ws_base.specs.declared.op.BinOp.{BinOp}
 use Rattle.ws_base.specs.declared.op.BinOp.TheVariants as binop
 use Rattle.ws_base.specs.declared.op.CallWord.{CallWord}
 use Rattle.ws_base.specs.declared.op.CallWord.TheVariants as word
 use Rattle.ws_tree.specs.declared.expr.Expr.{Expr}
-use Rattle.ws_tree.specs.declared.expr.Expr.TheVariants.{Number, TooWide, TooDeep, Named, Part, Call, Vector, Paren, Unary, Binary}
+use Rattle.ws_tree.specs.declared.expr.Expr.TheVariants.{Number, TooWide, TooDeep, Part, Call, Vector, Paren, Unary, Binary}
 use Rattle.ws_tree.specs.declared.expr.Sub.{Sub}
 use Rattle.ws_tree.specs.declared.expr.Sub.TheVariants as sub
+use Rattle.ws_tree.specs.Calls.{takes}
 use Rattle.ws_tree.specs.Words.{is_other_call}
 use Rattle.ws_expr.specs.declared.reading.Reading.{Reading}
 use Rattle.ws_expr.specs.declared.reading.Gathered.{Gathered}
@@ -118,44 +119,6 @@ or_left_out None false = None
 -- what a word in front of `(` calls, if it is a word of calls
 abbrev pub callee : List ℕ → Option Callee
 callee x = or_left_out (call_word x) (is_other_call x)
-
-abbrev pub is_name : Expr → Bool
-is_name (Named x) = true
-is_name _ = false
-
-abbrev pub is_digits : Expr → Bool
-is_digits (Number n) = true
-is_digits TooWide = true
-is_digits _ = false
-
-abbrev pub is_one_name : List Expr → Bool
-is_one_name (x ∷ []) = is_name x
-is_one_name _ = false
-
--- a name and a dimension
-abbrev pub is_with_dimension : List Expr → Bool
-is_with_dimension (x ∷ d ∷ []) = if is_name x then is_digits d else false
-is_with_dimension _ = false
-
--- the number of arguments is right, and those that have to be a name or a digit string are
-abbrev pub takes : CallWord → List Expr → Bool
-takes word.Abs es = nat_eq (length es) 1
-takes word.Mod es = nat_eq (length es) 2
-takes word.Modulo es = nat_eq (length es) 2
-takes word.Min es = nat_le 2 (length es)
-takes word.Max es = nat_le 2 (length es)
-takes word.Merge es = nat_eq (length es) 3
-takes word.Sum es = nat_eq (length es) 1
-takes word.Product es = nat_eq (length es) 1
-takes word.Minval es = nat_eq (length es) 1
-takes word.Maxval es = nat_eq (length es) 1
-takes word.Count es = nat_eq (length es) 1
-takes word.Any es = nat_eq (length es) 1
-takes word.All es = nat_eq (length es) 1
-takes word.Size es = is_one_name es || is_with_dimension es
-takes word.Lbound es = is_with_dimension es
-takes word.Ubound es = is_with_dimension es
-takes word.Allocated es = is_one_name es
 
 -- a call that is left out keeps no tree of its own
 abbrev pub call : Callee → Gathered Expr → Reading Expr

@@ -11,4 +11,4 @@ mod tests;
 
 pub use calls::Callee;
 pub use parse::{Failed, after, expression, subs, whole};
-pub use reading::{Gathered, Reading};
+pub use reading::{Gathered, Reading, node};

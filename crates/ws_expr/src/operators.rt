@@ -32,46 +32,31 @@ fn joining(what: &TokenKind) -> Option<BinOp>
     }
 }
 
-pub fn rank(op: BinOp) -> u8
-    ensures { result ≡ ranks.rank op }
+/// The greatest rank of the left operand, the rank of the operator, and the greatest rank of the right operand.
+fn ranks_of(op: BinOp) -> (u8, u8, u8)
+    ensures { result ≡ ranks.ranks op }
 {
     match op {
-        BinOp::Pow => 1,
-        BinOp::Mul | BinOp::Div => 2,
-        BinOp::Add | BinOp::Sub => 3,
-        BinOp::Eq | BinOp::Ne | BinOp::Lt | BinOp::Le | BinOp::Gt | BinOp::Ge => 4,
-        BinOp::And => 6,
-        BinOp::Or => 7,
-        BinOp::Eqv | BinOp::Neqv => 8,
+        BinOp::Pow => (0, 1, 1),
+        BinOp::Mul | BinOp::Div => (2, 2, 1),
+        BinOp::Add | BinOp::Sub => (3, 3, 2),
+        BinOp::Eq | BinOp::Ne | BinOp::Lt | BinOp::Le | BinOp::Gt | BinOp::Ge => (3, 4, 3),
+        BinOp::And => (6, 6, 5),
+        BinOp::Or => (7, 7, 6),
+        BinOp::Eqv | BinOp::Neqv => (8, 8, 7),
     }
 }
 
-fn left_rank(op: BinOp) -> u8
-    ensures { result ≡ ranks.left_rank op }
+pub fn rank(op: BinOp) -> u8
+    ensures { result ≡ ranks.rank op }
 {
-    match op {
-        BinOp::Pow => 0,
-        BinOp::Mul | BinOp::Div => 2,
-        BinOp::Add | BinOp::Sub => 3,
-        BinOp::Eq | BinOp::Ne | BinOp::Lt | BinOp::Le | BinOp::Gt | BinOp::Ge => 3,
-        BinOp::And => 6,
-        BinOp::Or => 7,
-        BinOp::Eqv | BinOp::Neqv => 8,
-    }
+    ranks_of(op).1
 }
 
 pub fn right_rank(op: BinOp) -> u8
     ensures { result ≡ ranks.right_rank op }
 {
-    match op {
-        BinOp::Pow => 1,
-        BinOp::Mul | BinOp::Div => 1,
-        BinOp::Add | BinOp::Sub => 2,
-        BinOp::Eq | BinOp::Ne | BinOp::Lt | BinOp::Le | BinOp::Gt | BinOp::Ge => 3,
-        BinOp::And => 5,
-        BinOp::Or => 6,
-        BinOp::Eqv | BinOp::Neqv => 7,
-    }
+    ranks_of(op).2
 }
 
 pub fn sign_rank(op: UnOp) -> u8
@@ -99,7 +84,8 @@ pub fn next_operator(tokens: &[Token], bound: u8, limit: u8) -> Option<(BinOp, &
 {
     let (first, rest) = tokens.split_first()?;
     let op = joining(&first.what)?;
-    if bound <= left_rank(op) && rank(op) <= limit {
+    let (left, own, _) = ranks_of(op);
+    if bound <= left && own <= limit {
         Some((op, rest))
     } else {
         None

@@ -4,11 +4,11 @@ ghost use Rattle.ws_expr.specs.Readings as readings;
 ghost use Rattle.ws_tree.specs.declared.expr.Expr.{Expr};
 ghost use Rattle.ws_tree.specs.declared.expr.Sub.{Sub};
 
-use crate::calls::{Callee, takes};
+use crate::calls::Callee;
 use sqlite_items::{Boxed, Items};
 use std::alloc::{AllocError, Global};
 use ws_base::{BinOp, Name, UnOp};
-use ws_tree::{Expr, Sub};
+use ws_tree::{Expr, Sub, takes};
 
 /// An expression or a subscript that was read, with its depth, which is counted to 65. The tree of an expression deeper than 64 is `TooDeep`.
 /// It is odd where it has a call that the grammar has and that is left out, at no more than that depth; such a tree is of no use.
@@ -51,7 +51,8 @@ impl<T: Drop> Gathered<T> {
     }
 }
 
-fn node(depth: u8, odd: bool, tree: Expr) -> Reading<Expr>
+/// What is one deeper than its parts, of that greatest depth.
+pub fn node(depth: u8, odd: bool, tree: Expr) -> Reading<Expr>
     ensures { result ≡ readings.node depth odd tree }
 {
     if depth < 64 {

@@ -141,19 +141,19 @@ primary-returns-in-Some-after-clause-complete t c = λ e rest d s.
 pub opened-returns-in_err-items-in-Some-clause-complete : goal.opened-returns-in_err-items-in-Some-clause-complete
 opened-returns-in_err-items-in-Some-clause-complete t c = λ e rest d.
     let g = heads.call_at c.in-Some.ensures d in
-    heads.failing _ c.from_residual.result c.in_err-items-in-Some.field-0.0 c.from_residual.ensures.1 (c.in_err-items-in-Some.ensures.complete g.es g.after g.read g.ends)
+    heads.failing _ c.from_residual.result c.in_err-items-in-Some.field-0.0 c.from_residual.ensures.1 (c.in_err-items-in-Some.ensures.complete g.items g.after g.read (heads.closes_subs_by g.closes))
 
 pub opened-returns-in_err-rest-in-Some-clause-complete : goal.opened-returns-in_err-rest-in-Some-clause-complete
 opened-returns-in_err-rest-in-Some-clause-complete t c = λ e rest d.
     let g = heads.call_at c.in-Some.ensures d in
-    let got = c.in_ok-items-in-Some.ensures.complete g.es g.after g.read g.ends in
+    let got = c.in_ok-items-in-Some.ensures.complete g.items g.after g.read (heads.closes_subs_by g.closes) in
     heads.failing _ c.from_residual-in_err-rest-in-Some.result c.in_err-rest-in-Some.field-0.0 c.from_residual-in_err-rest-in-Some.ensures.1
     (c.in_err-rest-in-Some.ensures.complete rest (heads.follows_at got.1 g.closes))
 
 pub opened-returns-in_err-rest-in-None-clause-complete : goal.opened-returns-in_err-rest-in-None-clause-complete
 opened-returns-in_err-rest-in-None-clause-complete t c = λ e rest d.
     let g = heads.part_at c.in-None.ensures d in
-    let got = c.in_ok-items-in-None.ensures.complete g.subs g.after g.read g.ends in
+    let got = c.in_ok-items-in-None.ensures.complete g.items g.after g.read (heads.closes_subs_by g.closes) in
     heads.failing _ c.from_residual-in_err-rest-in-None.result c.in_err-rest-in-None.field-0.0 c.from_residual-in_err-rest-in-None.ensures.1
     (c.in_err-rest-in-None.ensures.complete rest (heads.follows_at got.1 g.closes))
 
@@ -163,8 +163,8 @@ opened-returns-in_ok-rest-in-Some-clause-sound t c = heads.call_by c.call.ensure
 pub opened-returns-in_ok-rest-in-Some-clause-complete : goal.opened-returns-in_ok-rest-in-Some-clause-complete
 opened-returns-in_ok-rest-in-Some-clause-complete t c = λ e rest d.
     let g = heads.call_at c.in-Some.ensures d in
-    let got = c.in_ok-items-in-Some.ensures.complete g.es g.after g.read g.ends in
-    (c.call.ensures ∙ heads.call_as g got.0, c.in_ok-rest-in-Some.ensures.complete rest (heads.follows_at got.1 g.closes))
+    let got = c.in_ok-items-in-Some.ensures.complete g.items g.after g.read (heads.closes_subs_by g.closes) in
+    (c.call.ensures ∙ heads.items_as g got.0, c.in_ok-rest-in-Some.ensures.complete rest (heads.follows_at got.1 g.closes))
 
 pub opened-returns-in_ok-copy-in-None-clause-sound : goal.opened-returns-in_ok-copy-in-None-clause-sound
 opened-returns-in_ok-copy-in-None-clause-sound t c = heads.part_by c.part.ensures c.in_ok-copy-in-None.ensures (sym c.in-None.ensures) c.in_ok-items-in-None.ensures.sound c.in_ok-rest-in-None.ensures.sound
@@ -179,14 +179,14 @@ bracketed-returns-in_err-rest-in-Open-clause-complete t c = λ token e rest h d.
 pub bracketed-returns-in_err-rest-in-OpenSquare-clause-complete : goal.bracketed-returns-in_err-rest-in-OpenSquare-clause-complete
 bracketed-returns-in_err-rest-in-OpenSquare-clause-complete t c = λ token e rest h d.
     let g = heads.at_square (h ∙ ap kind.Sign c.in-OpenSquare.is) d in
-    let got = c.in_ok-items-in-OpenSquare.ensures.complete g.es g.after g.read (heads.closes_square_by g.closes) in
+    let got = c.in_ok-items-in-OpenSquare.ensures.complete g.items g.after g.read (heads.closes_square_by g.closes) in
     heads.failing _ c.from_residual-in_err-rest-in-OpenSquare.result c.in_err-rest-in-OpenSquare.field-0.0 c.from_residual-in_err-rest-in-OpenSquare.ensures.1
     (c.in_err-rest-in-OpenSquare.ensures.complete rest (heads.follows_at got.1 g.closes))
 
 pub bracketed-returns-in_err-rest-in-OpenSlash-clause-complete : goal.bracketed-returns-in_err-rest-in-OpenSlash-clause-complete
 bracketed-returns-in_err-rest-in-OpenSlash-clause-complete t c = λ token e rest h d.
     let g = heads.at_slash (h ∙ ap kind.Sign c.in-OpenSlash.is) d in
-    let got = c.in_ok-items-in-OpenSlash.ensures.complete g.es g.after g.read (heads.closes_slash_by g.closes) in
+    let got = c.in_ok-items-in-OpenSlash.ensures.complete g.items g.after g.read (heads.closes_slash_by g.closes) in
     heads.failing _ c.from_residual-in_err-rest-in-OpenSlash.result c.in_err-rest-in-OpenSlash.field-0.0 c.from_residual-in_err-rest-in-OpenSlash.ensures.1
     (c.in_err-rest-in-OpenSlash.ensures.complete rest (heads.follows_at got.1 g.closes))
 
