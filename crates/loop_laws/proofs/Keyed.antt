@@ -193,3 +193,8 @@ keyed_loop V l b count acts m n chunk plan is fit w =
 pub not_fault : (k c v : ℕ) → In (Fault k) (Store c v ∷ []) → ⊥
 not_fault k c v (inl e) = absurd (let z : zero ≡ suc zero = cc in omega (arith, z))
 not_fault k c v (inr h) = elim h [ ]
+
+-- a loop of which no iteration fails
+pub keyless : (l : ℕ) (b : Label) (count : Source) (acts : List Act) (m : Cells) (n chunk : ℕ) → IsChunk chunk → Fitting count acts m n → ((i k : ℕ) → i < n → In (Fault k) (does acts m i) → ⊥) → key (Loop l b count acts) m chunk ≡ none_yet
+keyless l b count acts m n chunk is fit never = ap least_key (chunked l b count acts m n fit chunk is)
+    ∙ no_key (each_from (does acts m) 0 n) (λ k h. let x = from_each (Fault k) (does acts m) 0 n h in let y = x.2 in never x.0 k (omega (arith, y)) x.3)

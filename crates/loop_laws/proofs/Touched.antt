@@ -9,7 +9,7 @@ use Rattle.phase_ops.specs.Phases.{Cells, each_from, lay, over, phase_effects, a
 use Rattle.phase_ops.specs.Free.{In, stored, lessened, IsChunk}
 use Rattle.phase_ops.proofs.Frame.{over_length, over_both}
 use Rattle.phase_ops.proofs.Strands.{lay_length, lay_quiet, from_stored, from_lessened}
-use Rattle.loop_laws.specs.Loops.{Touched, does, Fitting}
+use Rattle.loop_laws.specs.Loops.{Touched, does, Fitting, Inside}
 use Rattle.act_eval.proofs.Leads.{lay_append}
 use Rattle.act_eval.proofs.Fitting.{each_split}
 use Rattle.loop_laws.proofs.Units.{chunked}
@@ -51,3 +51,11 @@ module _ (l : ℕ) (b : Label) (count : Source) (acts : List Act) (m : Cells) (n
 
   pub by_none : (c : ℕ) → (Touched (does acts m) n c → ⊥) → slice_index (after_phase (Loop l b count acts) m chunk) c ≡ slice_index m c
   by_none c never = ap (λ (z : Cells). slice_index z c) all_there ∙ none_touches (does acts m) m 0 n c (λ i x y h. never (i, omega (arith, y), h))
+
+-- ---- what effects touch, and cells of a range
+
+abbrev pub Touches : ℕ → List Effect → Type 0
+Touches c es = In c (stored es) ⊎ In c (lessened es)
+
+pub inside_at : (from n i c : ℕ) → i < n → c ≡ from + i → Inside from n c
+inside_at from n i c l e = (omega (arith, e), omega (arith, l, e))

@@ -1,0 +1,3 @@
+pub mod Saves
+pub mod Pairs
+pub mod Values
