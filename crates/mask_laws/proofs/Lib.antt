@@ -1,0 +1,5 @@
+pub mod Layers
+pub mod Idles
+pub mod Masks
+pub mod Controls
+mod Rows

@@ -1,0 +1,4 @@
+pub mod Layers
+pub mod Idles
+pub mod Masks
+pub mod Controls

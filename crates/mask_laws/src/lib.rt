@@ -1,0 +1,9 @@
+//! Masks: direct ones as acts that share their first ops, and saved ones, also under a control. Read `specs/Layers.antt`, then
+//! `specs/Controls.antt`.
+#![tactic(auto)]
+
+mod laws;
+
+pub use laws::{
+    control_gate_law, control_law, gate_law, idle_layered_law, layered_law, line_law, masking_law,
+};
