@@ -10,10 +10,11 @@ use Rattle.phase_ops.specs.declared.phase.Micro.TheVariants as micro
 use Rattle.phase_ops.specs.declared.phase.ScalarOp.TheVariants as scalar
 use Rattle.phase_ops.specs.Phases as phase
 use Rattle.phase_ops.specs.Free.{In}
-use Rattle.act_laws.specs.Together.{Files, Scene, outcome, gives_at, stop_at, Level, Ends, Follows}
+use Rattle.act_laws.specs.Together.{Files, Scene, outcome, gives_at, stop_at, Level, Ends, Follows, well}
+use Rattle.act_laws.specs.Seats.{Has}
 use Rattle.act_laws.proofs.Strands.{IsOkay, each_okay}
 use Rattle.act_laws.proofs.Columns.{each_in}
-use Rattle.act_laws.proofs.Sure.{sure, Has, well}
+use Rattle.act_laws.proofs.Sure.{sure}
 
 -- a test at each place: the value, or the one fault
 abbrev pub tested : FaultName → (ℕ → Bool) → (ℕ → ℤ) → ℕ → Exact

@@ -1,4 +1,5 @@
 pub mod Columns
+pub mod Digiting
 pub mod Fetching
 pub mod Following
 pub mod Guards

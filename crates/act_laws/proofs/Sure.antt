@@ -5,16 +5,9 @@ use Rattle.phase_ops.specs.declared.phase.Micro.{Micro}
 use Rattle.phase_ops.specs.Phases.{looks, divisors}
 use Rattle.phase_ops.specs.Phases as phase
 use Rattle.phase_ops.specs.Free.{In}
-use Rattle.act_laws.specs.Together.{Files, Scene, number_in, gives_at, with_ops, stop_at, Level, Follows}
+use Rattle.act_laws.specs.Together.{Files, Scene, number_in, gives_at, with_ops, stop_at, Level, Follows, well}
+use Rattle.act_laws.specs.Seats.{Has}
 use Rattle.act_laws.proofs.Following.{Level-with_op, newest, kept, length_grows, each_all}
-
--- the ops pass
-abbrev pub well : Staged (Unit {0})
-well = Ok tt
-
--- the register has this number at each place
-abbrev pub Has : List ℕ → ℕ → (ℕ → ℤ) → Files → Type 0
-Has at reg f files = (p : ℕ) → In p at → (phase.register (files p) reg ≡ f p) × (reg < length (files p))
 
 pub has_later : (s : Scene) (at : List ℕ) (reg : ℕ) (f : ℕ → ℤ) (files : Files) (ops : List Micro) → Has at reg f files → Has at reg f (with_ops s ops files)
 has_later s at reg f files ops h p i = (kept s files ops p reg (h p i).1 ∙ (h p i).0, length_grows s files ops p reg (h p i).1)

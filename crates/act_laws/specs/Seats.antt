@@ -56,9 +56,13 @@ seat_or None = fixed (pos 0)
 abbrev pub Holds : Scene → List ℕ → Files → List ℕ → Table → Environment → Type 0
 Holds s at files known table env = (n : ℕ) → In n known → Sits s at files (seat_or (table n)) (column_at at (env n))
 
+-- the register has this number at each place
+abbrev pub Has : List ℕ → ℕ → (ℕ → ℤ) → Files → Type 0
+Has at reg f files = (p : ℕ) → In p at → (phase.register (files p) reg ≡ f p) × (reg < length (files p))
+
 -- the register has the place itself
 abbrev pub HasPlace : List ℕ → ℕ → Files → Type 0
-HasPlace at place files = (p : ℕ) → In p at → (phase.register (files p) place ≡ pos p) × (place < length (files p))
+HasPlace at place files = Has at place (λ p. pos p) files
 
 -- The values stand in the register.
 abbrev pub StandIn : List ℕ → ℕ → List ℤ → Files → Type 0

@@ -1,5 +1,6 @@
 //! Laws, each the contract of a function that does nothing.
 
+ghost use Rattle.act_laws.specs.Digits.{DigitsLaw};
 ghost use Rattle.act_laws.specs.Fetches.{FetchLaw};
 ghost use Rattle.act_laws.specs.Loops.{LoopLaw};
 ghost use Rattle.act_laws.specs.Strands.{PlacesLaw, StrandLaw};
@@ -28,4 +29,9 @@ pub fn loop_law()
 /// Ops over words leave words.
 pub fn words_law()
     ensures { WordsLaw }
+{}
+
+/// Where a place stands in each dimension comes into registers.
+pub fn digits_law()
+    ensures { DigitsLaw }
 {}

@@ -6,5 +6,5 @@
 mod laws;
 mod seat;
 
-pub use laws::{fetch_law, loop_law, places_law, strand_law, words_law};
+pub use laws::{digits_law, fetch_law, loop_law, places_law, strand_law, words_law};
 pub use seat::{Seat, Seated};
