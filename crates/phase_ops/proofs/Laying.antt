@@ -62,19 +62,27 @@ pub lay_comm : (m : Memory) (e : Effect) (fs : List Effect) → ((f : Effect) �
 lay_comm m e [] a = refl
 lay_comm m e (f ∷ fs) a = ap (λ (z : Memory). lay_both z fs) (apply_comm m e f (a f (inl refl))) ∙ lay_comm (apply f m) e fs (λ g h. a g (inr h))
 
+-- a cell that the effect e names, among effects of which it is one
+named : (cells : List Effect → List ℕ) (c : ℕ) (e : Effect) → ((es : List Effect) → In c (cells (e ∷ es))) → ((f : Effect) (es : List Effect) → In c (cells es) → In c (cells (f ∷ es))) → (es : List Effect) → In e es → In c (cells es)
+named cells c e here later [] h = elim h [ ]
+named cells c e here later (f ∷ es) (inl q) = subst (λ (z : Effect). In c (cells (z ∷ es))) q (here es)
+named cells c e here later (f ∷ es) (inr h) = later f es (named cells c e here later es h)
+
+stored_later : (c : ℕ) (f : Effect) (es : List Effect) → In c (stored es) → In c (stored (f ∷ es))
+stored_later c (Store d w) es h = inr h
+stored_later c (Least d w) es h = h
+stored_later c (Fault k) es h = h
+
+lessened_later : (c : ℕ) (f : Effect) (es : List Effect) → In c (lessened es) → In c (lessened (f ∷ es))
+lessened_later c (Store d w) es h = h
+lessened_later c (Least d w) es h = inr h
+lessened_later c (Fault k) es h = h
+
 pub stored_is : (c v : ℕ) (es : List Effect) → In (Store c v) es → In c (stored es)
-stored_is c v [] h = elim h [ ]
-stored_is c v (y ∷ es) (inl e) = subst (λ (z : Effect). In c (stored (z ∷ es))) e (inl refl)
-stored_is c v (Store d w ∷ es) (inr h) = inr (stored_is c v es h)
-stored_is c v (Least d w ∷ es) (inr h) = stored_is c v es h
-stored_is c v (Fault k ∷ es) (inr h) = stored_is c v es h
+stored_is c v = named stored c (Store c v) (λ es. inl refl) (stored_later c)
 
 pub lessened_is : (c v : ℕ) (es : List Effect) → In (Least c v) es → In c (lessened es)
-lessened_is c v [] h = elim h [ ]
-lessened_is c v (y ∷ es) (inl e) = subst (λ (z : Effect). In c (lessened (z ∷ es))) e (inl refl)
-lessened_is c v (Least d w ∷ es) (inr h) = inr (lessened_is c v es h)
-lessened_is c v (Store d w ∷ es) (inr h) = lessened_is c v es h
-lessened_is c v (Fault k ∷ es) (inr h) = lessened_is c v es h
+lessened_is c v = named lessened c (Least c v) (λ es. inl refl) (lessened_later c)
 
 -- effects of different units are apart: what the proof of Put, Least and Note needs
 pub units_apart : (w : Work) → FreeOfRaces w → (u v : ℕ) → u < w.units → v < w.units → u ≢ v → (e f : Effect) → In e (w.effects u) → In f (w.effects v) → Apart e f
