@@ -14,7 +14,9 @@ use crate::joins::run_join;
 use crate::parts::run_part;
 use crate::site::Site;
 use phase_ops::{Act, Phase};
-use scan_parts::{AllPart, AnyPart, CountPart, MaxvalPart, MinvalPart, ProductPart, SumPart};
+use scan_parts::{
+    AllPart, AnyPart, CountPart, MaxvalPart, Merge, MinvalPart, ProductPart, SumPart,
+};
 use ws_base::CallWord;
 
 /// The number of the phase's units.
@@ -40,31 +42,20 @@ pub fn strands_of(phase: &Phase, chunks: Chunks, unit: u32) -> (u32, u32)
     }
 }
 
+/// A part whose cell is stored is done with.
+fn done_with<M: Merge>(_part: M) {}
+
 /// The run over the partials of the reduction that the word names.
 macro_rules! of_each {
     ($kind:expr, $run:expr) => {
         match $kind {
-            CallWord::Sum => {
-                let _sum: SumPart = $run;
-            }
-            CallWord::Product => {
-                let _product: ProductPart = $run;
-            }
-            CallWord::Minval => {
-                let _least: MinvalPart = $run;
-            }
-            CallWord::Maxval => {
-                let _greatest: MaxvalPart = $run;
-            }
-            CallWord::Count => {
-                let _count: CountPart = $run;
-            }
-            CallWord::Any => {
-                let _any: AnyPart = $run;
-            }
-            CallWord::All => {
-                let _all: AllPart = $run;
-            }
+            CallWord::Sum => done_with::<SumPart>($run),
+            CallWord::Product => done_with::<ProductPart>($run),
+            CallWord::Minval => done_with::<MinvalPart>($run),
+            CallWord::Maxval => done_with::<MaxvalPart>($run),
+            CallWord::Count => done_with::<CountPart>($run),
+            CallWord::Any => done_with::<AnyPart>($run),
+            CallWord::All => done_with::<AllPart>($run),
             _ => {}
         }
     };
