@@ -16,5 +16,8 @@ pub mod Rehearsals
 pub mod Entering
 pub mod Lengths
 pub mod Cores
+pub mod Loops
 pub mod Shifts
+pub mod Cells
+pub mod Reducing
 pub mod Places

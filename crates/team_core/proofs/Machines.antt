@@ -174,10 +174,11 @@ rebase Q c c' k k' pending pending' entered entered' ready ready' a b p e r h =
     let g : HoldsFor Q c k pending entered ready' = record { can = h.can; sound = h.sound; entered_is = λ l. let z = h.entered_is l in (z.0, r z.1); sized = h.sized; pending_is = h.pending_is } in
     subst (λ (x : Course × CoreState × List (std.Option Effect) × ℕ). HoldsFor Q x.0 x.1 x.2 x.3 ready') (λ i. (sym a i, sym b i, sym p i, sym e i)) g
 
--- the member m has taken a step that leaves k''
+-- the member m has taken a step that leaves k'', which is sound for the member as it stands
 pub leaves : (c : Course) (k : CoreState) (pending : List (std.Option Effect)) (entered : ℕ) (ready : Type 0) (h : Holds c k pending entered ready) (m : ℕ) (there : m < c.team) (k' k'' : CoreState) (y : Member)
-    → k'' ≡ k' → k'.members ≡ slice_set k.members m y → SoundAt c h.sound.front k' → HoldsBut m c k'' pending entered ready
-leaves c k pending entered ready h m there k' k'' y is members sound = rebase (λ n. n ≢ m) c c k' k'' pending pending entered entered ready ready refl is refl refl (λ z. z) (moved c k pending entered ready h m there k' y members sound)
+    → k'' ≡ k' → k'.members ≡ slice_set k.members m y → (get_elem? k.members m ≡ some (member_of k m) → SoundAt c h.sound.front k') → HoldsBut m c k'' pending entered ready
+leaves c k pending entered ready h m there k' k'' y is members sound =
+    rebase (λ n. n ≢ m) c c k' k'' pending pending entered entered ready ready refl is refl refl (λ z. z) (moved c k pending entered ready h m there k' y members (sound (at_member c k pending entered ready h m there)))
 
 -- ---- the start
 

@@ -109,13 +109,28 @@ more_behind f first strand n l e =
     ap (λ (x : ℕ). length (each_from f first x)) k ∙ ap length (each_snoc f first (strand - first)) ∙ length-append (each_from f first (strand - first)) (f (first + (strand - first)))
     ∙ ap (λ (x : ℕ). length (each_from f first (strand - first)) + x) (ap (λ (x : ℕ). length (f x)) at ∙ sym e)
 
-pub found_here : (o : std.Option Effect) (xs ys : List Effect) (n : ℕ) → is_some o ≡ true → as_option o ≡ get_elem? xs n → as_option o ≡ get_elem? (xs ++ ys) n
+found_here : (o : std.Option Effect) (xs ys : List Effect) (n : ℕ) → is_some o ≡ true → as_option o ≡ get_elem? xs n → as_option o ≡ get_elem? (xs ++ ys) n
 found_here (std.Some e) xs ys n some is = sym (in_first xs ys n e (sym is))
 found_here std.None xs ys n some is = cc
 
-pub found_later : (o : std.Option Effect) (xs ys : List Effect) (n : ℕ) → is_some o ≡ false → as_option o ≡ get_elem? xs n → (length xs ≤ n) × (get_elem? (xs ++ ys) n ≡ get_elem? ys (n - length xs))
+found_later : (o : std.Option Effect) (xs ys : List Effect) (n : ℕ) → is_some o ≡ false → as_option o ≡ get_elem? xs n → (length xs ≤ n) × (get_elem? (xs ++ ys) n ≡ get_elem? ys (n - length xs))
 found_later (std.Some e) xs ys n some is = cc
 found_later std.None xs ys n some is = in_second xs ys n (sym is)
+
+-- what a strand that was tried tells: the effect that it was asked for, or how many it has
+module _ (p : Phase) (chunk strand left : ℕ) (m m' : Cells) (same : m' ≡ m) (o : std.Option Effect) (wanted : ℕ) (asked : wanted ≡ left) (found : as_option o ≡ get_elem? (strand_effects p m' chunk strand) wanted) (rest : List Effect) where
+  is_found : as_option o ≡ get_elem? (strand_effects p m chunk strand) left
+  is_found = found ∙ (λ i. get_elem? (strand_effects p (same i) chunk strand) (asked i))
+
+  pub tried_here : is_some o ≡ true → as_option o ≡ get_elem? (strand_effects p m chunk strand ++ rest) left
+  tried_here some = found_here o (strand_effects p m chunk strand) rest left some is_found
+
+  pub tried_later : is_some o ≡ false → (seen : ℕ) → seen ≡ length (strand_effects p m' chunk strand)
+      → (seen ≡ length (strand_effects p m chunk strand)) × (seen ≤ left) × (get_elem? (strand_effects p m chunk strand ++ rest) left ≡ get_elem? rest (left - seen))
+  tried_later missing seen is =
+      let long : seen ≡ length (strand_effects p m chunk strand) = is ∙ ap (λ (x : Cells). length (strand_effects p x chunk strand)) same in
+      let later = found_later o (strand_effects p m chunk strand) rest left missing is_found in
+      (long, subst (λ (n : ℕ). n ≤ left) (sym long) later.0, later.1 ∙ ap (λ (n : ℕ). get_elem? rest (left - n)) (sym long))
 
 -- ---- from a place on
 

@@ -7,3 +7,4 @@ pub mod Shifts
 pub mod Scratches
 pub mod Units
 pub mod Cores
+pub mod Reduced

@@ -12,9 +12,12 @@ use Rattle.phase_ops.specs.Phases.{Cells}
 use Rattle.team_core.specs.declared.team.Core.{Core}
 use Rattle.team_core.specs.Cores.{state_of, team_of, IsCore}
 
--- the cell of this number, counted from `base`
+-- the cell whose number the register has, counted from `base`
+abbrev pub cell_at : ℕ → ℕ → Address
+cell_at base reg = record { base = Fixed (pos base); terms = record { reg = reg; step = Fixed (pos 1) } ∷ [] }
+
 abbrev pub cell_from : ℕ → Address
-cell_from base = record { base = Fixed (pos base); terms = record { reg = 0; step = Fixed (pos 1) } ∷ [] }
+cell_from base = cell_at base 0
 
 abbrev pub copy_act : ℕ → ℕ → Act
 copy_act from to = record { line = 4; ops = op.Position ∷ op.Load (cell_from from) ∷ op.Store (cell_from to) 1 ∷ []; whole = false }

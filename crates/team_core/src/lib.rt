@@ -7,6 +7,7 @@ pub mod laws;
 mod machine;
 mod member;
 mod rehearsal;
+pub mod samples;
 mod scratch;
 mod state;
 mod steps;

@@ -5,10 +5,6 @@ use sqlite_items::Items;
 
 pub type CellList = Items<u64>;
 
-pub type CountsList = Items<Counts>;
-
-pub type MemberList = Items<Member>;
-
 /// How often the units of a phase were claimed, how many are finished, and how many members have arrived behind them.
 #[derive(Clone, Copy, Debug, PartialEq, Eq)]
 pub struct Numbers {
@@ -24,6 +20,8 @@ pub struct Counts {
     pub key: u64,
 }
 
+pub type CountsList = Items<Counts>;
+
 /// A member: its phase, its state there, and whether it has seen the barrier full.
 #[derive(Clone, Copy, Debug, PartialEq, Eq)]
 pub struct Member {
@@ -31,6 +29,8 @@ pub struct Member {
     pub state: MemberState,
     pub full: bool,
 }
+
+pub type MemberList = Items<Member>;
 
 /// The cells, the words of each phase, and the members.
 #[derive(Drop)]

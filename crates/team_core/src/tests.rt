@@ -1,72 +1,14 @@
-//! A core over `a(2:5) = a(1:4)`: a phase that saves the right side, and one that assigns it.
+//! A core over `a(2:5) = a(1:4)`.
 
-ghost use Rattle.std.specs.Prelude.{◌≡◌, ◌≤◌, ◌<◌, IfOk};
+ghost use Rattle.std.specs.Prelude.{◌≤◌, ◌<◌, IfOk};
 ghost use Rattle.phase_ops.specs.Free.{IsChunk};
-ghost use Rattle.team_core.specs.Shifts.{cell_from, copy_act, copy as spec_copy, shift, IsShift};
+ghost use Rattle.team_core.specs.Shifts.{IsShift};
 
 use super::*;
-use phase_ops::{
-    Act, ActList, Address, Label, Micro, MicroList, Phase, PhaseList, Source, Term, TermList,
-};
+use crate::samples::shift_phases;
+use phase_ops::PhaseList;
 use std::alloc::{AllocError, Global};
 use std::test::Fail;
-use ws_base::Name;
-
-/// The cell whose number is in the register 0, counted from `base`.
-fn cell_from(alloc: Global, base: u32) -> Result<Address, AllocError>
-    ensures { IfOk result (λ a. a ≡ cell_from base) }
-{
-    let term = Term {
-        reg: 0,
-        step: Source::Fixed(1),
-    };
-    Ok(Address {
-        base: Source::Fixed(i64::from(base)),
-        terms: TermList::from_vec(vec![in alloc; term]?),
-    })
-}
-
-fn copy_act(alloc: Global, from: u32, to: u32) -> Result<Act, AllocError>
-    ensures { IfOk result (λ a. a ≡ copy_act from to) }
-{
-    let load = Micro::Load(cell_from(alloc, from)?);
-    let store = Micro::Store(cell_from(alloc, to)?, 1);
-    Ok(Act {
-        line: 4,
-        ops: MicroList::from_vec(vec![in alloc; Micro::Position, load, store]?),
-        whole: false,
-    })
-}
-
-/// Copies four cells.
-fn copy(alloc: Global, label: Label, from: u32, to: u32) -> Result<Phase, AllocError>
-    ensures { IfOk result (λ p. p ≡ spec_copy label from to) }
-{
-    let act = copy_act(alloc, from, to)?;
-    Ok(Phase::Loop {
-        line: 4,
-        label,
-        count: Source::Fixed(4),
-        acts: ActList::from_vec(vec![in alloc; act]?),
-    })
-}
-
-fn shift_phases(alloc: Global) -> Result<PhaseList, AllocError>
-    ensures { IfOk result (λ ps. ps ≡ shift) }
-{
-    let save = Label::Save {
-        temp: 1,
-        addresses: None,
-    };
-    let assign = Label::Assign {
-        name: Name::from_str(alloc, "a")?,
-        from: Some(1),
-        at: None,
-    };
-    let first = copy(alloc, save, 0, 5)?;
-    let second = copy(alloc, assign, 5, 1)?;
-    Ok(PhaseList::from_vec(vec![in alloc; first, second]?))
-}
 
 /// A core that runs, and its phases.
 #[derive(Drop)]

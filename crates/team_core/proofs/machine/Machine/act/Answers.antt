@@ -4,7 +4,7 @@ use Rattle.team_core.specs.declared.state.CoreState.{CoreState}
 use Rattle.team_core.specs.declared.state.Member.{Member}
 use Rattle.team_core.specs.Core.{member_of, member, acts}
 use Rattle.team_core.specs.Front.{is_there}
-use Rattle.team_core.proofs.Machines.{placed, done_room, at_member, next_is, leaves}
+use Rattle.team_core.proofs.Machines.{placed, done_room, next_is, leaves}
 use Rattle.team_core.proofs.Keeping.{keeps_act}
 use Rattle.team_core.proofs.machine.Machine.act.Goals as goal
 
@@ -18,10 +18,7 @@ pub look_ahead-requires-clause-holds : goal.look_ahead-requires-clause-holds
 look_ahead-requires-clause-holds g c =
     let k : CoreState = c.args.self.now.state in
     let m : ℕ = c.args.member in
-    let x : Member = member_of k m in
     let h = c.requires.holds in
-    let u : ℕ = c.args.unit in
-    let d : ℕ = c.args.done in
-    let next = next_is _ k _ _ _ h m c.requires.there u d c.requires.within c.args.effect c.requires.next in
-    leaves _ k _ _ _ h m c.requires.there (acts k m x c.args.effect u d) c.act.new.state (member x.phase (Within u (suc d)) false) c.act.ensures refl
-    (keeps_act _ k h.sound m x (at_member _ k _ _ _ h m c.requires.there) h.can.safe u d c.args.effect c.requires.within next)
+    let next = next_is _ k _ _ _ h m c.requires.there c.args.unit c.args.done c.requires.within c.args.effect c.requires.next in
+    leaves _ k _ _ _ h m c.requires.there (acts k m (member_of k m) c.args.effect c.args.unit c.args.done) c.act.new.state (member (member_of k m).phase (Within c.args.unit (suc c.args.done)) false) c.act.ensures refl
+    (λ at. keeps_act _ k h.sound m (member_of k m) at h.can.safe c.args.unit c.args.done c.args.effect c.requires.within next)

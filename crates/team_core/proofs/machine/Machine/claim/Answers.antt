@@ -6,7 +6,7 @@ use Rattle.team_core.specs.declared.state.Counts.{Counts}
 use Rattle.team_core.specs.declared.state.Member.{Member}
 use Rattle.team_core.specs.Core.{member_of, member, counts_at, claims, claims_of}
 use Rattle.team_core.specs.Front.{is_there}
-use Rattle.team_core.proofs.Machines.{ready_now, entered_now, placed, claimed_room, at_member, leaves}
+use Rattle.team_core.proofs.Machines.{ready_now, entered_now, placed, claimed_room, leaves}
 use Rattle.team_core.proofs.Keeping.{keeps_claim}
 use Rattle.team_core.proofs.machine.Machine.claim.Goals as goal
 
@@ -33,7 +33,7 @@ look_ahead-requires-clause-holds g c =
     let n : Counts = counts_at k x.phase in
     let is = claims_phase course k c.claim.new.state m _ _ c.claim.ensures c.units-units.ensures (entered_now _ _ k _ _ _ h m c.requires.there (ap is_there c.requires.ready)) in
     leaves course k _ _ _ h m c.requires.there (claims course k m x) c.claim.new.state (member x.phase (cond (ltb n.numbers.claimed (work_at course x.phase).units) (Within n.numbers.claimed 0) Out) false) is refl
-    (keeps_claim course k h.sound m x (at_member course k _ _ _ h m c.requires.there) c.requires.ready)
+    (λ at. keeps_claim course k h.sound m x at c.requires.ready)
 
 pub returns-clause-state : goal.returns-clause-state
 returns-clause-state g c = c.look_ahead.ensures.state ∙ claims_phase (g.W.UnitWork.course c.args.self.now.work c.args.plan.now) c.args.self.now.state c.claim.new.state c.args.member _ _ c.claim.ensures c.units-units.ensures

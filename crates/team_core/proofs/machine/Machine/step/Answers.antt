@@ -24,8 +24,6 @@ returns-then-not-allows-clause-answer g c =
 
 pub returns-then-not-is_look-clause-answer : goal.returns-then-not-is_look-clause-answer
 returns-then-not-is_look-clause-answer g c =
-    let k : CoreState = c.args.self.now.state in
-    let m : ℕ = c.args.member in
-    let x : Member = member_of k m in
-    let is = asked c.args.kind m _ k.members _ c.args.self.now.pending c.allows.result c.as_slice.ensures c.as_slice-2.ensures c.allows.ensures in
-    performs _ k _ _ _ c.requires.holds m c.requires.there c.args.kind x.state x.full _ refl refl refl (sym is ∙ c.if-not-allows.false) (sym c.is_look.ensures ∙ c.if-not-is_look.true) c.advance.new.self.state c.advance.ensures.did
+    let k : CoreState = c.args.self.now.state in let x : Member = member_of k c.args.member in
+    let is = asked c.args.kind c.args.member _ k.members _ c.args.self.now.pending c.allows.result c.as_slice.ensures c.as_slice-2.ensures c.allows.ensures in
+    performs _ k _ _ _ c.requires.holds c.args.member c.requires.there c.args.kind x.state x.full _ refl refl refl (sym is ∙ c.if-not-allows.false) (sym c.is_look.ensures ∙ c.if-not-is_look.true) c.advance.new.self.state c.advance.ensures.did
