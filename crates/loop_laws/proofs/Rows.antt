@@ -1,5 +1,5 @@
 -- Small loops, computed.
-use Rattle.std.proofs.Common.{◌≡◌, refl, ℕ, false, List, [], ◌∷◌, ℤ, pos, ◌+ℤ◌, Ok, Err}
+use Rattle.std.proofs.Common.{◌≡◌, refl, false, List, [], ◌∷◌, ℤ, pos, ◌+ℤ◌, Ok, Err}
 use Rattle.std.specs.Prelude.{slice_index_or}
 use Rattle.ws_base.specs.declared.fault.FaultName.TheVariants.{Overflow}
 use Rattle.ws_base.specs.Numbers.{exact, default_half}
@@ -7,7 +7,6 @@ use Rattle.phase_ops.specs.declared.phase.Source.TheVariants.{Fixed}
 use Rattle.phase_ops.specs.declared.phase.Address.{Address}
 use Rattle.phase_ops.specs.declared.phase.Micro.TheVariants as op
 use Rattle.phase_ops.specs.declared.phase.ScalarOp.TheVariants as scalar
-use Rattle.phase_ops.specs.declared.phase.Act.{Act}
 use Rattle.phase_ops.specs.declared.phase.Label.TheVariants.{Stage}
 use Rattle.phase_ops.specs.declared.phase.Phase.{Phase}
 use Rattle.phase_ops.specs.declared.phase.Phase.TheVariants.{Loop}

@@ -1,16 +1,13 @@
 -- A Set does what its one strand does.
-use Rattle.std.proofs.Common.{◌≡◌, ◌⊎◌, inl, inr, ℕ, ◌+◌, ◌<◌, Bool, true, false, List, [], ◌∷◌, ◌++◌, length, refl, ap, ◌∙◌, arith, ℤ, None, Ok}
-use Rattle.std.specs.Prelude.{if◌then◌else◌}
+use Rattle.std.proofs.Common.{◌≡◌, ◌⊎◌, inl, inr, ℕ, ◌<◌, List, [], ◌++◌, length, ◌∙◌, arith}
 use Rattle.std.proofs.lemmas.Int.{ints}
 use Rattle.std.proofs.lemmas.List.{append-nil}
-use Rattle.ws_base.specs.Numbers.{truth, is_true}
 use Rattle.phase_ops.specs.declared.phase.Act.{Act}
 use Rattle.phase_ops.specs.declared.phase.Label.{Label}
 use Rattle.phase_ops.specs.declared.phase.Phase.TheVariants.{Set}
-use Rattle.phase_ops.specs.Phases.{Cells, cell_value, phase_effects}
+use Rattle.phase_ops.specs.Phases.{Cells, phase_effects}
 use Rattle.phase_ops.specs.Free.{In, stored, lessened, Free}
-use Rattle.loop_laws.specs.Moves.{Row, Move, Keeps, Ended, deeper, moved}
-use Rattle.loop_laws.specs.Loops.{Plan, ended, does}
+use Rattle.loop_laws.specs.Loops.{does}
 use Rattle.loop_laws.specs.Sets.{Staging}
 
 module _ (l : ℕ) (b : Label) (acts : List Act) (m : Cells) (w : Staging acts m) where

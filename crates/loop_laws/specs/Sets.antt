@@ -1,13 +1,11 @@
 -- A Set: a phase of one strand.
-use Rattle.std.specs.Prelude.{◌≡◌, ℕ, ◌+◌, ◌<◌, ◌≤◌, Bool, if◌then◌else◌, ℤ, pos, ◌<ℤ◌, List, ◌∷◌, length, None, Ok}
-use Rattle.ws_base.specs.Numbers.{is_true}
+use Rattle.std.specs.Prelude.{◌≡◌, ℕ, ◌<◌, ◌≤◌, ℤ, pos, ◌<ℤ◌, List, length}
 use Rattle.phase_ops.specs.declared.phase.Act.{Act}
 use Rattle.phase_ops.specs.declared.phase.Label.{Label}
 use Rattle.phase_ops.specs.declared.phase.Phase.TheVariants.{Set}
-use Rattle.phase_ops.specs.Phases.{Cells, cell_value, acts_events, divides, lay, least_key, after_phase, key}
+use Rattle.phase_ops.specs.Phases.{Cells, acts_events, divides, lay, least_key, after_phase, key}
 use Rattle.phase_ops.specs.Free.{In, stored, lessened, NameEarlier, Free, IsChunk}
-use Rattle.loop_laws.specs.Moves.{Row, Move, Keeps, deeper, moved}
-use Rattle.loop_laws.specs.Loops.{Plan, ended, does, looks_at}
+use Rattle.loop_laws.specs.Loops.{does, looks_at}
 
 -- the acts of a Set over this memory
 pub record Staging (acts : List Act) (m : Cells) : Type 0 where

@@ -1,13 +1,11 @@
 -- Moves as runs of ops.
-use Rattle.std.proofs.Common.{◌≡◌, ℕ, suc, ◌+◌, Bool, true, false, List, [], ◌∷◌, ◌++◌, length, sym, refl, ap, ◌∙◌, subst, arith, Some, None, Result, Ok, Err, ℤ}
+use Rattle.std.proofs.Common.{◌≡◌, ℕ, suc, ◌+◌, Bool, true, false, List, [], ◌∷◌, length, sym, refl, ap, ◌∙◌, subst, arith, Some, None, Result, Ok, Err, ℤ}
 use Rattle.std.specs.Prelude.{if◌then◌else◌}
 use Rattle.ws_base.specs.declared.fault.FaultName.{FaultName}
-use Rattle.ws_base.specs.Outcomes.{◌>>=◌, Staged, each}
 use Rattle.phase_ops.specs.declared.phase.Micro.{Micro}
 use Rattle.phase_ops.specs.Phases.{Cells}
-use Rattle.loop_laws.specs.Moves.{Row, Move, Makes, Keeps, Failure, Ended, made, deeper, moved, whole, pushed, kept, further, and_then}
+use Rattle.loop_laws.specs.Moves.{Move, Makes, Keeps, Ended, made, deeper, moved}
 use Rattle.segment_laws.specs.Segments.{Ran, Broke, ran}
-use Rattle.loop_laws.specs.Laws.{told}
 use Rattle.segment_laws.specs.Compiled.{MakesIt, TestsIt, Compiled, all_ops, RanSo}
 use Rattle.segment_laws.proofs.Segments.{ran_on, ran_join}
 

@@ -1,23 +1,18 @@
 -- The act that puts the negative of the number of its position.
-use Rattle.std.proofs.Common.{◌≡◌, ℕ, suc, ◌+◌, ◌<◌, Bool, true, false, List, [], ◌∷◌, ◌++◌, length, ap, ◌∙◌, arith, Some, None, Ok, Err, ℤ, pos, negsuc, ◌+ℤ◌, ◌*ℤ◌}
+use Rattle.std.proofs.Common.{◌≡◌, ℕ, ◌+◌, ◌<◌, Bool, true, List, [], ◌∷◌, ap, ◌∙◌, arith, Ok, Err, pos, negsuc}
 use Rattle.std.specs.Prelude.{if◌then◌else◌, ◌-ℤ◌}
 use Rattle.std.proofs.lemmas.Int.{ints}
-use Rattle.std.proofs.lemmas.List.{get_or_append_left}
 use Rattle.std.proofs.lemmas.Bool.Decides.{nat_tests}
 use Rattle.ws_base.specs.declared.fault.FaultName.TheVariants.{Overflow}
 use Rattle.ws_base.specs.Numbers.{Exact, exact, in_range, default_half}
-use Rattle.phase_ops.specs.declared.effect.Effect.{Effect}
 use Rattle.phase_ops.specs.declared.effect.Effect.TheVariants.{Store}
-use Rattle.phase_ops.specs.declared.phase.Micro.{Micro}
 use Rattle.phase_ops.specs.declared.phase.Micro.TheVariants as op
 use Rattle.phase_ops.specs.declared.phase.Act.{Act}
-use Rattle.phase_ops.specs.Phases.{Cells, word, cell_of, register, over, turn_of, ops_events, acts_events, makes}
-use Rattle.loop_laws.specs.Moves.{Move, Ended, moved}
-use Rattle.loop_laws.specs.Loops.{does, planned}
-use Rattle.segment_laws.specs.Segments.{Ran, Through, stepped, ran, AllStoreNothing, onward}
-use Rattle.segment_laws.specs.Compiled.{Compiled, all_ops}
+use Rattle.phase_ops.specs.Phases.{Cells, word, over, turn_of, acts_events, makes}
+use Rattle.loop_laws.specs.Loops.{does}
+use Rattle.segment_laws.specs.Segments.{Ran, Through, stepped, ran, onward}
 use Rattle.segment_laws.specs.Acts.{from, negative_ops, idle_act}
-use Rattle.segment_laws.proofs.Acts.{onward_makes, ActEnds, act_ends, at_is, at_first, nothing}
+use Rattle.segment_laws.proofs.Acts.{onward_makes, at_is, at_first}
 
 negative : (i : ℕ) → i < 65536 → exact default_half (negsuc 0 -ℤ pos i) ≡ Ok (negsuc i)
 negative i l = ap (exact default_half) (let e : negsuc 0 -ℤ pos i ≡ negsuc i = grind (arith, ints) in e) ∙ ap (λ (b : Bool). let r : Exact = if b then Ok (negsuc i) else Err Overflow in r) (let e : in_range default_half (negsuc i) ≡ true = grind (arith, nat_tests) in e)

@@ -3,7 +3,7 @@ use Rattle.std.specs.Prelude.{◌≡◌, ℕ, suc, ◌+◌, ℤ, Bool, true, fal
 use Rattle.ws_base.specs.declared.fault.FaultName.{FaultName}
 use Rattle.phase_ops.specs.declared.phase.Micro.{Micro}
 use Rattle.phase_ops.specs.Phases.{Cells}
-use Rattle.loop_laws.specs.Moves.{Row, Move, Makes, Keeps, Failure, Ended, whole}
+use Rattle.loop_laws.specs.Moves.{Move, Makes, Keeps, Ended}
 use Rattle.segment_laws.specs.Segments.{Ran, Through, Out, Broke, ran}
 
 -- ---- one move as a run of ops
