@@ -1,8 +1,8 @@
 -- What acts do, from what their runs of ops do.
-use Rattle.std.proofs.Common.{◌≡◌, ℕ, suc, ◌+◌, ◌<◌, Bool, true, false, List, [], ◌∷◌, ◌++◌, length, refl, ap, ◌∙◌, subst, arith, Some, None, Ok, Err, ℤ, pos, negsuc, ◌+ℤ◌, ◌*ℤ◌, slice_index}
+use Rattle.std.proofs.Common.{◌≡◌, ℕ, suc, ◌+◌, ◌<◌, Bool, true, false, List, [], ◌∷◌, ◌++◌, refl, ap, ◌∙◌, arith, Some, ℤ, pos, negsuc, slice_index}
 use Rattle.std.specs.Prelude.{if◌then◌else◌, nat_lt, int_lt, int_le}
 use Rattle.std.specs.Int.{w64, cast_signed}
-use Rattle.std.proofs.lemmas.Int.{ints, to_z_pos}
+use Rattle.std.proofs.lemmas.Int.{to_z_pos}
 use Rattle.std.proofs.lemmas.Bool.Decides.{nat_tests}
 use Rattle.ws_base.specs.declared.fault.FaultName.TheVariants.{ManyOne}
 use Rattle.ws_base.specs.Numbers.{truth, is_true}
@@ -12,17 +12,13 @@ use Rattle.phase_ops.specs.declared.effect.Turn.TheVariants.{Next, Shut, Fails}
 use Rattle.phase_ops.specs.declared.phase.Micro.{Micro}
 use Rattle.phase_ops.specs.declared.phase.Micro.TheVariants as op
 use Rattle.phase_ops.specs.declared.phase.ScalarOp.TheVariants as scalar
-use Rattle.phase_ops.specs.Phases.{Cells, word, cell_value, cell_of, key_of, none_yet, Spot, Event, ops_events, spot, makes}
-use Rattle.loop_laws.specs.Moves.{Move, Ended, moved}
-use Rattle.loop_laws.specs.Loops.{does, planned}
+use Rattle.phase_ops.specs.Phases.{Cells, word, cell_value, key_of, none_yet, ops_events, makes}
+use Rattle.loop_laws.specs.Loops.{does}
 use Rattle.save_laws.specs.Saves.{assigned}
 use Rattle.mark_laws.specs.Marks.{marking, checking}
-use Rattle.segment_laws.specs.Segments.{Ran, Through, Out, stepped, ran, AllStoreNothing, onward}
-use Rattle.segment_laws.specs.Compiled.{Compiled, all_ops, RanSo}
+use Rattle.segment_laws.specs.Segments.{Ran, Through, Out, stepped, ran, onward}
 use Rattle.segment_laws.specs.Acts.{from}
 use Rattle.mark_laws.specs.Acts.{its_target, clear_acts, mark_acts, check_acts, assign_acts, place_of}
-use Rattle.segment_laws.proofs.Segments.{segment, seen_makes}
-use Rattle.segment_laws.proofs.Compiled.{runs}
 use Rattle.segment_laws.proofs.Acts.{onward_makes, at_is, at_first, nothing}
 
 -- ---- the acts that are always the same

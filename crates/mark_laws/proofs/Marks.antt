@@ -17,11 +17,11 @@ use Rattle.phase_ops.proofs.Members.{from_each, to_each}
 use Rattle.phase_ops.proofs.Keys.{least_is_one, least_below}
 use Rattle.phase_ops.proofs.Frame.{over_length}
 use Rattle.phase_ops.proofs.Strands.{from_stored, from_lessened}
-use Rattle.loop_laws.specs.Loops.{does, looks_at, Fitting, Alone, Inside}
+use Rattle.loop_laws.specs.Loops.{does, looks_at, Alone, Inside}
 use Rattle.mark_laws.specs.Marks.{Clearing, Cleared, Places, marking, Marking, Marked, checking, Checking, Repeats, Checked}
 use Rattle.loop_laws.proofs.Units.{free_loop, chunked}
 use Rattle.loop_laws.proofs.Touched.{same_length, by_one, by_none, all_there, Touches, inside_at}
-use Rattle.loop_laws.proofs.Keyed.{no_key, one_fault, least_bound, key_in_range, keyless}
+use Rattle.loop_laws.proofs.Keyed.{one_fault, least_bound, key_in_range, keyless}
 
 -- ---- clear
 

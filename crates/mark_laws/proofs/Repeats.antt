@@ -1,13 +1,11 @@
 -- The first row whose target an earlier row has stands where the list of targets first repeats one.
-use Rattle.std.proofs.Common.{◌≡◌, ◌⊎◌, inl, inr, ℕ, zero, suc, ◌+◌, ◌<◌, ◌≤◌, Bool, true, false, List, [], ◌∷◌, sym, refl, ap, ◌∙◌, subst, arith, Option, Some, None, Result, Ok, Err}
+use Rattle.std.proofs.Common.{◌≡◌, ◌⊎◌, inl, inr, ℕ, zero, suc, ◌+◌, ◌<◌, ◌≤◌, Bool, true, false, List, [], ◌∷◌, sym, refl, ap, ◌∙◌, arith, Option, Some, None}
 use Rattle.std.specs.Prelude.{if◌then◌else◌, slice_index_or, ◌==◌, ◌||◌}
 use Rattle.std.proofs.lemmas.Bool.Decides.{nat_tests}
-use Rattle.ws_base.specs.Outcomes.{Staged, each}
 use Rattle.ws_space.specs.Values.{is_among, repeat_after}
 use Rattle.phase_ops.specs.Free.{In}
-use Rattle.loop_laws.specs.Moves.{Row, Move, Makes, Keeps, Failure, iterations_of, pushed, kept, further, and_then, whole, targets_of}
+use Rattle.loop_laws.specs.Moves.{Row, iterations_of, targets_of}
 use Rattle.loop_laws.specs.Laws.{Ascend}
-use Rattle.loop_laws.proofs.Bridge.{each_is, tested, Each}
 
 among_here : (t u : ℕ) (us : List ℕ) → t ≡ u → is_among t (u ∷ us) ≡ true
 among_here t u us e = ap (λ (b : Bool). b || is_among t us) (let g : (t == u) ≡ true = grind (arith, nat_tests) in g)

@@ -1,7 +1,6 @@
 -- A small step with five phases, computed.
-use Rattle.std.proofs.Common.{◌≡◌, refl, List, [], ◌∷◌, ℕ, pos}
+use Rattle.std.proofs.Common.{◌≡◌, refl, List, [], ◌∷◌, pos}
 use Rattle.ws_base.specs.declared.fault.FaultName.TheVariants.{ManyOne}
-use Rattle.phase_ops.specs.declared.phase.Source.TheVariants.{Fixed}
 use Rattle.phase_ops.specs.declared.phase.Micro.TheVariants as op
 use Rattle.phase_ops.specs.declared.phase.ScalarOp.TheVariants as scalar
 use Rattle.phase_ops.specs.declared.phase.Label.TheVariants.{Stage}

@@ -1,24 +1,16 @@
 -- A loop of two acts that saves values and targets: the first puts the negative of the number of the position, the second has the moves.
-use Rattle.std.proofs.Common.{◌≡◌, ℕ, suc, ◌+◌, ◌<◌, Bool, true, false, List, [], ◌∷◌, ◌++◌, length, ap, ◌∙◌, arith, Some, None, Ok, Err, ℤ, pos, negsuc, ◌+ℤ◌, ◌*ℤ◌}
-use Rattle.std.specs.Prelude.{if◌then◌else◌, ◌-ℤ◌}
-use Rattle.std.proofs.lemmas.Int.{ints}
+use Rattle.std.proofs.Common.{◌≡◌, ℕ, suc, ◌+◌, ◌<◌, false, List, [], ◌∷◌, ◌++◌, length, ap, ◌∙◌, arith, Some, None, Ok, Err, ℤ, pos, negsuc, ◌+ℤ◌, ◌*ℤ◌}
 use Rattle.std.proofs.lemmas.List.{get_or_append_left}
-use Rattle.std.proofs.lemmas.Bool.Decides.{nat_tests}
-use Rattle.ws_base.specs.declared.fault.FaultName.TheVariants.{Overflow}
-use Rattle.ws_base.specs.Numbers.{Exact, exact, in_range, default_half}
 use Rattle.phase_ops.specs.declared.effect.Effect.{Effect}
 use Rattle.phase_ops.specs.declared.effect.Effect.TheVariants.{Store}
 use Rattle.phase_ops.specs.declared.phase.Micro.{Micro}
-use Rattle.phase_ops.specs.declared.phase.Micro.TheVariants as op
-use Rattle.phase_ops.specs.declared.phase.Act.{Act}
-use Rattle.phase_ops.specs.Phases.{Cells, word, cell_of, register, over, turn_of, ops_events, acts_events, makes}
+use Rattle.phase_ops.specs.Phases.{Cells, word, cell_of, register, ops_events, acts_events, makes}
 use Rattle.loop_laws.specs.Moves.{Move, Ended, moved}
 use Rattle.loop_laws.specs.Loops.{does, planned}
-use Rattle.segment_laws.specs.Segments.{Ran, Through, stepped, ran, AllStoreNothing, onward}
+use Rattle.segment_laws.specs.Segments.{AllStoreNothing}
 use Rattle.segment_laws.specs.Compiled.{Compiled, all_ops}
 use Rattle.mark_laws.specs.Acts.{saver_plan, saves_at, saver_acts}
-use Rattle.segment_laws.specs.Acts.{from, negative_ops, idle_act}
-use Rattle.segment_laws.proofs.Acts.{onward_makes, ActEnds, act_ends, at_is, at_first, nothing}
+use Rattle.segment_laws.proofs.Acts.{ActEnds, act_ends, at_is, nothing}
 use Rattle.segment_laws.proofs.Idle.{with_idle, first_act}
 
 module _ (V : Type 0) (stands : ℕ → ℕ → List ℤ → List V → Type 0) (number : ℕ → ℕ) (xs : List (Move V)) (parts : List (List Micro)) (start : ℕ → List V) (value target : ℕ → List V → ℕ) (line t a rv rt : ℕ) where

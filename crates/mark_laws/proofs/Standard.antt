@@ -1,20 +1,18 @@
 -- The four loops behind a saving one.
-use Rattle.std.proofs.Common.{◌≡◌, ◌⊎◌, inl, inr, ℕ, zero, suc, ◌+◌, ◌*◌, ◌<◌, ◌≤◌, Bool, true, false, ◌&&◌, List, [], ◌∷◌, ◌++◌, map, length, sym, refl, ap, ◌∙◌, subst, arith, Option, Some, None, ℤ, pos, negsuc, ◌+ℤ◌, ◌*ℤ◌, slice_index}
-use Rattle.std.specs.Prelude.{if◌then◌else◌, nat_lt, int_lt, int_le}
+use Rattle.std.proofs.Common.{◌≡◌, ◌⊎◌, inl, inr, ℕ, zero, suc, ◌+◌, ◌<◌, ◌≤◌, Bool, true, false, List, [], ◌∷◌, ◌++◌, length, sym, refl, ap, ◌∙◌, subst, arith, Option, Some, None, ℤ, pos, negsuc, ◌+ℤ◌, ◌*ℤ◌, slice_index}
+use Rattle.std.specs.Prelude.{if◌then◌else◌, int_lt, int_le}
 use Rattle.std.specs.Int.{w64}
 use Rattle.std.proofs.lemmas.Int.{of_z-to_z}
-use Rattle.std.proofs.lemmas.Bool.Decides.{nat_tests}
 use Rattle.ws_base.specs.declared.fault.FaultName.TheVariants.{ManyOne}
 use Rattle.ws_base.specs.Numbers.{truth, is_true}
-use Rattle.phase_ops.specs.declared.effect.Turn.{Turn}
-use Rattle.phase_ops.specs.declared.effect.Turn.TheVariants.{Next, Shut, Fails, Does}
+use Rattle.phase_ops.specs.declared.effect.Turn.TheVariants.{Next, Shut, Fails}
 use Rattle.phase_ops.specs.declared.phase.Label.{Label}
 use Rattle.phase_ops.specs.declared.phase.Source.TheVariants.{Fixed}
 use Rattle.phase_ops.specs.declared.phase.Micro.{Micro}
 use Rattle.phase_ops.specs.declared.phase.Micro.TheVariants as op
 use Rattle.phase_ops.specs.declared.phase.Act.{Act}
-use Rattle.phase_ops.specs.Phases.{Cells, word, cell_value, cell_of, key_of, none_yet, Spot, Event, Loads, plain, went, over, looks, divisors, turn, ops_events, loads, divides}
-use Rattle.phase_ops.specs.Free.{In, registers, NameEarlier}
+use Rattle.phase_ops.specs.Phases.{Cells, word, cell_value, cell_of, key_of, none_yet, ops_events, loads}
+use Rattle.phase_ops.specs.Free.{In, NameEarlier}
 use Rattle.phase_ops.proofs.Strands.{loads_append}
 use Rattle.loop_laws.specs.Loops.{does, looks_at, Plan, Fitting, Inside}
 use Rattle.segment_laws.specs.Segments.{Ran, Through, Out, stepped, ran, seen, seen_next, onward}

@@ -1,8 +1,6 @@
 -- The acts of the loops whose ops are always the same. The temporary a has targets, t values.
 use Rattle.std.specs.Prelude.{ℕ, suc, ◌≡◌, false, List, [], ◌∷◌, ◌++◌, ◌+◌, ◌<◌, Option, Some, None, ℤ, pos, negsuc, slice_index}
 use Rattle.ws_base.specs.declared.fault.FaultName.TheVariants.{ManyOne}
-use Rattle.phase_ops.specs.declared.phase.Source.TheVariants.{Fixed}
-use Rattle.phase_ops.specs.declared.phase.Address.{Address}
 use Rattle.phase_ops.specs.declared.phase.Micro.{Micro}
 use Rattle.phase_ops.specs.declared.phase.Micro.TheVariants as op
 use Rattle.phase_ops.specs.declared.phase.ScalarOp.TheVariants as scalar

@@ -1,5 +1,5 @@
 -- The four loops behind a saving one, as they always are.
-use Rattle.std.specs.Prelude.{◌≡◌, ◌⊎◌, ℕ, suc, ◌+◌, ◌<◌, ◌≤◌, ℤ, pos, List, [], ◌∷◌, length, Option, Some, None, Result, Ok, Err, slice_index_or}
+use Rattle.std.specs.Prelude.{◌≡◌, ◌⊎◌, ℕ, suc, ◌+◌, ◌<◌, ◌≤◌, ℤ, pos, List, length, Option, Some, None, Result, Ok, Err, slice_index_or}
 use Rattle.ws_base.specs.declared.fault.FaultName.TheVariants.{ManyOne}
 use Rattle.ws_space.specs.Values.{first_repeat}
 use Rattle.phase_ops.specs.declared.phase.Label.{Label}

@@ -1,5 +1,5 @@
 -- The whole saved step, up to what the cells of its array stand for.
-use Rattle.std.specs.Prelude.{◌≡◌, ℕ, suc, ◌<◌, ◌≤◌, IsTrue, ℤ, List, length, Some, None, Result, Ok, Err}
+use Rattle.std.specs.Prelude.{◌≡◌, ℕ, suc, ◌<◌, ◌≤◌, IsTrue, ℤ, List, length, Some, Result, Ok, Err}
 use Rattle.ws_base.specs.Numbers.{default_half, in_range}
 use Rattle.ws_space.specs.declared.state.ArrayValue.{ArrayValue}
 use Rattle.ws_space.specs.Replace.{replaced}

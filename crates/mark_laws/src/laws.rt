@@ -48,7 +48,7 @@ pub fn replace_law()
     ensures { ReplaceLaw }
 {}
 
-/// What loops leave that assign are such cells.
+/// What a loop leaves that assigns has the new values at all targets, and all else of the array as before.
 pub fn given_law()
     ensures { GivenLaw }
 {}
@@ -58,7 +58,7 @@ pub fn as_replaced_law()
     ensures { AsReplacedLaw }
 {}
 
-/// So the whole step ends as replacement at once in its array.
+/// The whole saved step ends as replacement at once in its array, or with the first fault of what it saves.
 pub fn step_stands_law()
     ensures { StepStandsLaw }
 {}

@@ -1,13 +1,12 @@
 -- Save, then assign.
-use Rattle.std.proofs.Common.{◌≡◌, inl, inr, ℕ, zero, suc, ◌<◌, List, [], ◌∷◌, sym, refl, ap, ◌∙◌, subst, Option, Some, None, Result, Ok, Err}
-use Rattle.phase_ops.specs.declared.phase.Phase.{Phase}
-use Rattle.phase_ops.specs.Phases.{Cells, key, key_of, none_yet, after_phase, Outcome, Finished, Failed, result}
+use Rattle.std.proofs.Common.{◌≡◌, inl, inr, ℕ, zero, suc, ◌<◌, List, [], ◌∷◌, sym, refl, ap, ◌∙◌, subst, Result, Ok, Err}
+use Rattle.phase_ops.specs.Phases.{Cells, key, key_of, none_yet, after_phase, result}
 use Rattle.phase_ops.specs.Free.{Free, FreeFrom, IsChunk}
 use Rattle.loop_laws.specs.Moves.{Row, Failure}
 use Rattle.loop_laws.specs.Loops.{Plan, rows_of, Keyed}
 use Rattle.loop_laws.specs.Laws.{Bridged}
 use Rattle.save_laws.specs.Saves.{Saving, Saved, Saves, Assigning, Assigned}
-use Rattle.list_laws.specs.Lists.{Good, Leads, LeadsOne, either_fails, Never, NeverAt}
+use Rattle.list_laws.specs.Lists.{Leads, LeadsOne, either_fails, Never, NeverAt}
 use Rattle.save_laws.specs.Pairs.{Lap, loop, PairEnds}
 use Rattle.loop_laws.proofs.Keyed.{failure_within}
 use Rattle.save_laws.proofs.Saves.{saving_free, assigning_free, assigning_key, assigning_leaves}

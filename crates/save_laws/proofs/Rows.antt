@@ -1,5 +1,5 @@
 -- A small saved assignment, computed.
-use Rattle.std.proofs.Common.{◌≡◌, refl, ℕ, false, List, [], ◌∷◌, pos}
+use Rattle.std.proofs.Common.{◌≡◌, refl, ℕ, false, [], ◌∷◌, pos}
 use Rattle.phase_ops.specs.declared.phase.Source.TheVariants.{Fixed}
 use Rattle.phase_ops.specs.declared.phase.Address.{Address}
 use Rattle.phase_ops.specs.declared.phase.Micro.TheVariants as op

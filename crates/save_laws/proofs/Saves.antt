@@ -1,25 +1,20 @@
 -- Loops that save, and the loop that assigns from what they saved.
-use Rattle.std.proofs.Common.{◌≡◌, ◌≢◌, ◌⊎◌, inl, inr, ℕ, zero, suc, ◌+◌, ◌<◌, ◌≤◌, Bool, true, false, List, [], ◌∷◌, ◌++◌, length, set, length-set, sym, refl, ap, ◌∙◌, subst, arith, slice_index, get_or-set_same, get_or-set_other, Some, None, Result, Ok, Err, ℤ, pos, negsuc}
-use Rattle.std.specs.Int.{w64, cast_signed}
-use Rattle.std.proofs.Common.{SFits}
-use Rattle.std.proofs.lemmas.Int.{to_z-of_z}
-use Rattle.ws_base.specs.Numbers.{truth}
+use Rattle.std.proofs.Common.{◌≡◌, ◌≢◌, ◌⊎◌, inl, inr, ℕ, suc, ◌+◌, ◌<◌, ◌≤◌, List, [], ◌∷◌, ◌++◌, length, set, length-set, sym, refl, ap, ◌∙◌, subst, arith, slice_index, get_or-set_same, get_or-set_other, Some, None, Result, Ok, Err, ℤ, pos, negsuc}
 use Rattle.phase_ops.specs.declared.effect.Effect.{Effect}
 use Rattle.phase_ops.specs.declared.effect.Effect.TheVariants.{Store, Fault}
 use Rattle.phase_ops.specs.declared.phase.Source.{Source}
 use Rattle.phase_ops.specs.declared.phase.Act.{Act}
 use Rattle.phase_ops.specs.declared.phase.Label.{Label}
 use Rattle.phase_ops.specs.declared.phase.Phase.TheVariants.{Loop}
-use Rattle.phase_ops.specs.Phases.{Cells, cell_value, word, each_from, lay, after_phase, key, key_of, none_yet, source_cells, least_key}
-use Rattle.phase_ops.specs.Free.{In, stored, lessened, Free, IsChunk}
-use Rattle.phase_ops.proofs.Members.{from_each}
+use Rattle.phase_ops.specs.Phases.{Cells, word, lay, after_phase, key, key_of, none_yet, source_cells}
+use Rattle.phase_ops.specs.Free.{In, lessened, Free, IsChunk}
 use Rattle.loop_laws.specs.Moves.{Row, Failure, Ended}
 use Rattle.loop_laws.specs.Loops.{Plan, ended, planned, rows_of, does, Alone, Inside}
-use Rattle.loop_laws.specs.Laws.{Bridged, Direct, Leaves}
+use Rattle.loop_laws.specs.Laws.{Bridged}
 use Rattle.save_laws.specs.Saves.{Saving, Saved, Saves, assigned, Assigning, Assigned}
-use Rattle.loop_laws.proofs.Units.{free_loop, chunked}
+use Rattle.loop_laws.proofs.Units.{free_loop}
 use Rattle.loop_laws.proofs.Touched.{same_length, by_one, by_none, Touches, inside_at}
-use Rattle.loop_laws.proofs.Keyed.{no_key, in_rows, not_fault, keyless}
+use Rattle.loop_laws.proofs.Keyed.{in_rows, not_fault, keyless}
 use Rattle.loop_laws.proofs.Direct.{left, is_left}
 use Rattle.loop_laws.proofs.Words.{read_back, pos_fits, negsuc_fits}
 

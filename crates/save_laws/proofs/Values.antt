@@ -1,21 +1,20 @@
 -- Saved values, and the loop that assigns them.
-use Rattle.std.proofs.Common.{◌≡◌, ◌⊎◌, inl, inr, ℕ, zero, suc, ◌+◌, ◌<◌, List, [], ◌∷◌, length, slice_index, get_or-set_same, sym, refl, ap, ◌∙◌, subst, arith, None, Result, Ok, Err}
+use Rattle.std.proofs.Common.{◌≡◌, inl, inr, ℕ, ◌+◌, ◌<◌, List, [], ◌∷◌, length, slice_index, get_or-set_same, sym, refl, ap, ◌∙◌, subst, arith, Result, Ok, Err}
 use Rattle.phase_ops.specs.declared.effect.Effect.{Effect}
 use Rattle.phase_ops.specs.declared.effect.Effect.TheVariants.{Store, Fault}
 use Rattle.phase_ops.specs.declared.phase.Source.{Source}
 use Rattle.phase_ops.specs.declared.phase.Act.{Act}
 use Rattle.phase_ops.specs.declared.phase.Label.{Label}
 use Rattle.phase_ops.specs.declared.phase.Phase.TheVariants.{Loop}
-use Rattle.phase_ops.specs.Phases.{Cells, lay, after_phase, each_from, least_key, key, none_yet, source_cells, later, result, Failed}
-use Rattle.phase_ops.specs.Free.{In, stored, lessened, Free, FreeFrom, IsChunk}
-use Rattle.phase_ops.proofs.Members.{from_each}
+use Rattle.phase_ops.specs.Phases.{Cells, lay, after_phase, key, none_yet, source_cells, later, result, Failed}
+use Rattle.phase_ops.specs.Free.{In, lessened, Free, FreeFrom, IsChunk}
 use Rattle.loop_laws.specs.Moves.{Row, Failure}
 use Rattle.loop_laws.specs.Loops.{Plan, rows_of, does, looks_at, Alone, Keyed, Inside}
 use Rattle.loop_laws.specs.Laws.{Direct, Leaves, Bridged}
 use Rattle.save_laws.specs.Pairs.{Lap, loop}
-use Rattle.loop_laws.proofs.Units.{free_loop, chunked}
+use Rattle.loop_laws.proofs.Units.{free_loop}
 use Rattle.loop_laws.proofs.Touched.{same_length, by_one, by_none, Touches}
-use Rattle.loop_laws.proofs.Keyed.{no_key, failure_within, not_fault, keyless}
+use Rattle.loop_laws.proofs.Keyed.{failure_within, not_fault, keyless}
 use Rattle.loop_laws.proofs.Direct.{left, direct_free}
 use Rattle.save_laws.specs.Values.{ValueSaving, SavedValues, SavesValues, ValueAssigning, AssignedValues, ValuePairEnds}
 use Rattle.list_laws.proofs.Lists.{result_more, result_fails}

@@ -1,5 +1,5 @@
 -- Save, then assign, as lists of phases.
-use Rattle.std.specs.Prelude.{◌≡◌, ℕ, suc, ℤ, List, [], ◌∷◌, None, Result, Ok, Err}
+use Rattle.std.specs.Prelude.{◌≡◌, ℕ, suc, ℤ, List, [], ◌∷◌, Result, Ok, Err}
 use Rattle.phase_ops.specs.declared.phase.Source.{Source}
 use Rattle.phase_ops.specs.declared.phase.Act.{Act}
 use Rattle.phase_ops.specs.declared.phase.Label.{Label}

@@ -1,6 +1,5 @@
 -- A loop that saves values and targets, and the loop that assigns from them.
-use Rattle.std.specs.Prelude.{◌≡◌, ◌⊎◌, ℕ, ◌+◌, ◌<◌, ◌≤◌, Bool, ℤ, pos, negsuc, List, [], ◌∷◌, length, Result, Ok, Err, slice_index}
-use Rattle.ws_base.specs.Numbers.{truth}
+use Rattle.std.specs.Prelude.{◌≡◌, ◌⊎◌, ℕ, ◌+◌, ◌<◌, ◌≤◌, ℤ, pos, negsuc, List, [], ◌∷◌, length, Result, Ok, Err, slice_index}
 use Rattle.phase_ops.specs.declared.effect.Effect.{Effect}
 use Rattle.phase_ops.specs.declared.effect.Effect.TheVariants.{Store}
 use Rattle.phase_ops.specs.declared.phase.Source.{Source}

@@ -1,5 +1,5 @@
 -- `save t`, then `assign a from t`: saved values, whose targets are computed again.
-use Rattle.std.specs.Prelude.{◌≡◌, ◌⊎◌, ℕ, suc, ◌+◌, ◌<◌, ◌≤◌, ℤ, List, [], ◌∷◌, length, None, Result, Ok, Err, slice_index}
+use Rattle.std.specs.Prelude.{◌≡◌, ◌⊎◌, ℕ, suc, ◌+◌, ◌<◌, ◌≤◌, ℤ, List, [], ◌∷◌, length, Result, Ok, Err, slice_index}
 use Rattle.phase_ops.specs.declared.effect.Effect.TheVariants.{Store}
 use Rattle.phase_ops.specs.declared.phase.Source.{Source}
 use Rattle.phase_ops.specs.declared.phase.Act.{Act}

@@ -1,4 +1,4 @@
-use Rattle.std.proofs.Common.{ℤ, ℕ, refl, List}
+use Rattle.std.proofs.Common.{ℕ, List}
 use Rattle.phase_ops.specs.declared.phase.Phase.{Phase}
 use Rattle.phase_ops.specs.Phases.{result}
 use Rattle.phase_ops.specs.Free.{FreeFrom, IsChunk}
