@@ -1,9 +1,8 @@
 -- What a Join makes of partials, and the two phases together.
 use Rattle.std.proofs.Common.{◌≡◌, ◌⊎◌, inl, inr, ℕ, zero, suc, ◌+◌, ◌-◌, ◌<◌, ◌≤◌, min, Bool, true, false, List, [], ◌∷◌, ◌++◌, map, length, slice_index, set, length-set, length-append, get_or-set_same, get_or-set_other, sym, refl, ap, ◌∙◌, subst, arith, Result, Ok, Err, Some, None, ℤ, pos, ◌≤ℤ◌}
-use Rattle.std.specs.Prelude.{if◌then◌else◌, nat_lt, IsTrue}
+use Rattle.std.specs.Prelude.{if◌then◌else◌, IsTrue}
 use Rattle.std.specs.Int.{w64, cast_signed}
 use Rattle.std.proofs.lemmas.Int.{ints, to_z-of_z}
-use Rattle.std.proofs.lemmas.Bool.Decides.{nat_tests}
 use Rattle.std.proofs.lemmas.List.{append-nil}
 use Rattle.ws_base.specs.declared.fault.FaultName.{FaultName}
 use Rattle.ws_base.specs.declared.fault.FaultName.TheVariants.{Overflow}

@@ -1,5 +1,5 @@
 -- Small reductions, computed.
-use Rattle.std.proofs.Common.{◌≡◌, refl, false, List, [], ◌∷◌, ℕ, ℤ, pos}
+use Rattle.std.proofs.Common.{◌≡◌, refl, false, [], ◌∷◌, ℤ, pos}
 use Rattle.ws_base.specs.declared.fault.FaultName.TheVariants.{Overflow}
 use Rattle.phase_ops.specs.declared.phase.Source.TheVariants.{Fixed}
 use Rattle.phase_ops.specs.declared.phase.Micro.TheVariants as op
