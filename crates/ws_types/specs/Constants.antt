@@ -3,12 +3,12 @@ use Rattle.std.specs.Prelude.{ℕ, Bool, true, false, nat_lt, if◌then◌else�
 use Rattle.ws_base.specs.declared.op.UnOp.{UnOp}
 use Rattle.ws_base.specs.declared.op.UnOp.TheVariants as un
 use Rattle.ws_base.specs.declared.op.BinOp.{BinOp}
-use Rattle.ws_base.specs.declared.op.BinOp.TheVariants as bin
 use Rattle.ws_base.specs.declared.refusal.RefusalKind.TheVariants as kind
 use Rattle.ws_base.specs.declared.refusal.Refusal.{Refusal}
+use Rattle.ws_base.specs.Sorts.{operator_sort}
 use Rattle.ws_base.specs.Numbers.{Exact, default_half, unary_value, binary_value, truth}
 use Rattle.ws_tree.specs.declared.expr.Expr.{Expr}
-use Rattle.ws_tree.specs.declared.expr.Expr.TheVariants.{Number, TooWide, TooDeep, Truth, Named}
+use Rattle.ws_tree.specs.declared.expr.Expr.TheVariants.{Number, TooWide, TooDeep, Truth, Named, Part', Call', Vector'}
 use Rattle.ws_tree.specs.Trees.{paren, unary, binary}
 use Rattle.ws_types.specs.declared.constant.Constant.{Constant}
 use Rattle.ws_types.specs.declared.constant.Constancy.{Constancy}
@@ -36,11 +36,7 @@ is_sign un.Plus = true
 is_sign un.Not = false
 
 abbrev pub is_arithmetic : BinOp → Bool
-is_arithmetic bin.Add = true
-is_arithmetic bin.Sub = true
-is_arithmetic bin.Mul = true
-is_arithmetic bin.Div = true
-is_arithmetic _ = false
+is_arithmetic op = (operator_sort op).constant
 
 abbrev pub signed : UnOp → Constancy → Constancy
 signed op (Value z) = of_exact (unary_value default_half op z)
@@ -65,7 +61,10 @@ constancy cs (Named x) = constant_of cs x
 constancy cs (paren e) = constancy cs e
 constancy cs (unary op e) = if is_sign op then signed op (constancy cs e) else NotConstant
 constancy cs (binary op a b) = if is_arithmetic op then joined op (constancy cs a) (constancy cs b) else NotConstant
-constancy cs _ = NotConstant
+constancy cs (Truth b) = NotConstant
+constancy cs (Part' x _ subs) = NotConstant
+constancy cs (Call' w _ es) = NotConstant
+constancy cs (Vector' _ es) = NotConstant
 
 -- the value of a LOGICAL constant is a literal
 abbrev pub truth_constancy : Expr → Constancy
@@ -74,16 +73,19 @@ truth_constancy TooDeep = NoValue
 truth_constancy _ = NotConstant
 
 abbrev pub is_no_constant : Constancy → Bool
+is_no_constant (Value z) = false
+is_no_constant NoValue = false
 is_no_constant NotConstant = true
-is_no_constant _ = false
 
 abbrev pub has_no_value : Constancy → Bool
+has_no_value (Value z) = false
 has_no_value NoValue = true
-has_no_value _ = false
+has_no_value NotConstant = false
 
 unfoldable pub constant_faults : ℕ → Constancy → List Refusal
 constant_faults line c = when (is_no_constant c) line kind.Unsupported ++ when (has_no_value c) line kind.OverLimit
 
 abbrev pub value_of : Constancy → Option ℤ
 value_of (Value z) = Some z
-value_of _ = None
+value_of NoValue = None
+value_of NotConstant = None

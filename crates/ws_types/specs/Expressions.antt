@@ -3,6 +3,8 @@ use Rattle.std.specs.Prelude.{ℕ, suc, Bool, true, ◌&&◌, nat_lt, if◌then�
 use Rattle.ws_base.specs.declared.refusal.RefusalKind.TheVariants as kind
 use Rattle.ws_base.specs.declared.refusal.Refusal.{Refusal}
 use Rattle.ws_base.specs.declared.op.CallWord.{CallWord}
+use Rattle.ws_base.specs.Sorts.{is_inquiry}
+use Rattle.ws_tree.specs.Calls.{takes}
 use Rattle.ws_tree.specs.declared.expr.Expr.{Expr}
 use Rattle.ws_tree.specs.declared.expr.Expr.TheVariants.{Number, TooWide, TooDeep, Truth, Named, Part', Call', Vector'}
 use Rattle.ws_tree.specs.declared.expr.Sub.{Sub}
@@ -15,7 +17,7 @@ use Rattle.ws_types.specs.declared.types.Arguments.{Arguments}
 use Rattle.ws_types.specs.declared.types.Subscripts.{Subscripts}
 use Rattle.ws_types.specs.Kinds.{when}
 use Rattle.ws_types.specs.Names.{Name, standing_of, name_type, name_faults, logical, integer}
-use Rattle.ws_types.specs.Operations.{unary_faults, unary_type, binary_faults, binary_type, scalar_faults, is_scalar, subscript_faults, with_subscript, with_triplet, no_subscripts, part_faults, part_type, no_arguments, with_argument, vector_faults, vector_type, takes, is_inquiry, call_faults, call_type, inquiry_faults, inquiry_type}
+use Rattle.ws_types.specs.Operations.{unary_faults, unary_type, binary_faults, binary_type, scalar_faults, is_scalar, subscript_faults, with_subscript, with_triplet, no_subscripts, part_faults, part_type, no_arguments, with_argument, vector_faults, vector_type, call_faults, call_type, inquiry_faults, inquiry_type}
 
 abbrev pub listed : {m : _} → Exprs m → List Expr
 listed end_exprs = []

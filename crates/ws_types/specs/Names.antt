@@ -33,41 +33,47 @@ name_type (Some (Active e)) = Some (entry_type e)
 name_type (Some Index) = Some integer
 name_type (Some Barred) = None
 
--- a name that is not declared
-abbrev pub is_undeclared : Option Standing → Bool
-is_undeclared None = true
-is_undeclared _ = false
+-- What the rules on names ask, which stands here once for each standing: whether a name is not declared, an index name in a bound of its own
+-- header, a named constant, an active DO variable or index name, and neither a variable of ALLOCATE nor refused anyway.
+pub record Asked : Type 0 where
+  pub undeclared : Bool
+  pub barred : Bool
+  pub constant : Bool
+  pub active : Bool
+  pub no_allocatable : Bool
 
--- an index name in a bound of its own header
+abbrev pub unasked : Asked
+unasked = record { undeclared = false; barred = false; constant = false; active = false; no_allocatable = false }
+
+abbrev pub asked_of : Option Standing → Asked
+asked_of None = record unasked { undeclared = true }
+asked_of (Some (Declared e)) = record unasked { constant = e.constant; no_allocatable = not e.allocatable }
+asked_of (Some (Active e)) = record unasked { active = true; no_allocatable = not e.allocatable }
+asked_of (Some Index) = record unasked { active = true; no_allocatable = true }
+asked_of (Some Barred) = record unasked { barred = true }
+
+abbrev pub is_undeclared : Option Standing → Bool
+is_undeclared s = (asked_of s).undeclared
+
 abbrev pub is_barred : Option Standing → Bool
-is_barred (Some Barred) = true
-is_barred _ = false
+is_barred s = (asked_of s).barred
 
 unfoldable pub name_faults : ℕ → Option Standing → List Refusal
 name_faults line s = when (is_undeclared s) line kind.Undeclared ++ when (is_barred s) line kind.DoVariable
 
--- assignment or READ to a named constant
 abbrev pub is_constant : Option Standing → Bool
-is_constant (Some (Declared e)) = e.constant
-is_constant _ = false
+is_constant s = (asked_of s).constant
 
--- an active DO variable, or an index name
 abbrev pub is_active : Option Standing → Bool
-is_active (Some (Active e)) = true
-is_active (Some Index) = true
-is_active _ = false
+is_active s = (asked_of s).active
 
--- what is neither a variable of ALLOCATE nor refused anyway
-abbrev pub is_no_allocatable : Option Standing → Bool
-is_no_allocatable (Some (Declared e)) = not e.allocatable
-is_no_allocatable (Some (Active e)) = not e.allocatable
-is_no_allocatable (Some Index) = true
-is_no_allocatable _ = false
+-- type and rank of a variable that is assigned, where no rule refuses it
+abbrev pub target_type : Option Standing → Option Typed → Option Typed
+target_type s type = if is_constant s || is_active s then None else type
 
 -- a variable that is assigned or read
 unfoldable pub target_faults : ℕ → Option Standing → List Refusal
 target_faults line s = when (is_constant s) line kind.TypeWrong ++ when (is_active s) line kind.DoVariable
 
--- type and rank of a variable that is assigned, where no rule refuses it
-abbrev pub target_type : Option Standing → Option Typed → Option Typed
-target_type s type = if is_constant s || is_active s then None else type
+abbrev pub is_no_allocatable : Option Standing → Bool
+is_no_allocatable s = (asked_of s).no_allocatable

@@ -3,13 +3,15 @@ use Rattle.std.specs.Prelude.{ℕ, ◌+◌, Bool, true, false, not, ◌||◌, �
 use Rattle.ws_base.specs.declared.op.UnOp.{UnOp}
 use Rattle.ws_base.specs.declared.op.UnOp.TheVariants as un
 use Rattle.ws_base.specs.declared.op.BinOp.{BinOp}
-use Rattle.ws_base.specs.declared.op.BinOp.TheVariants as bin
 use Rattle.ws_base.specs.declared.op.CallWord.{CallWord}
-use Rattle.ws_base.specs.declared.op.CallWord.TheVariants as word
 use Rattle.ws_base.specs.declared.refusal.RefusalKind.TheVariants as kind
 use Rattle.ws_base.specs.declared.refusal.Refusal.{Refusal}
+use Rattle.ws_base.specs.Sorts.{ValueType, integer, logical, either, operator_sort, call_sort}
+pub use Rattle.ws_base.specs.Sorts.{is_reduction, is_inquiry}
+pub use Rattle.ws_space.specs.Masks.{same_truth}
+pub use Rattle.ws_tree.specs.Calls.{is_name, is_digits, is_one_name, is_with_dimension, takes}
 use Rattle.ws_tree.specs.declared.expr.Expr.{Expr}
-use Rattle.ws_tree.specs.declared.expr.Expr.TheVariants.{Number, TooWide, Named}
+use Rattle.ws_tree.specs.declared.expr.Expr.TheVariants.{Number, TooWide}
 use Rattle.ws_types.specs.declared.types.Typed.{Typed}
 use Rattle.ws_types.specs.declared.types.Standing.{Standing}
 use Rattle.ws_types.specs.declared.types.Arguments.{Arguments}
@@ -24,26 +26,18 @@ takes_truth un.Minus = false
 takes_truth un.Plus = false
 takes_truth un.Not = true
 
+abbrev pub is_logical : ValueType → Bool
+is_logical integer = false
+is_logical logical = true
+is_logical either = false
+
 -- the operands are LOGICAL
 abbrev pub joins_truths : BinOp → Bool
-joins_truths bin.And = true
-joins_truths bin.Or = true
-joins_truths bin.Eqv = true
-joins_truths bin.Neqv = true
-joins_truths _ = false
+joins_truths op = is_logical (operator_sort op).taken
 
 -- the result is LOGICAL
 abbrev pub gives_truth : BinOp → Bool
-gives_truth bin.Add = false
-gives_truth bin.Sub = false
-gives_truth bin.Mul = false
-gives_truth bin.Div = false
-gives_truth bin.Pow = false
-gives_truth _ = true
-
-abbrev pub same_truth : Bool → Bool → Bool
-same_truth true b = b
-same_truth false b = not b
+gives_truth op = is_logical (operator_sort op).given
 
 -- the part has a type, and another one than this
 abbrev pub is_other_type : Bool → Option Typed → Bool
@@ -84,9 +78,13 @@ binary_type op a b =
 
 -- ---- subscripts
 
+-- an INTEGER of at most this rank
+abbrev pub integer_faults : ℕ → ℕ → Option Typed → List Refusal
+integer_faults rank line t = when (is_other_type false t) line kind.TypeWrong ++ when (is_above rank t) line kind.RankWrong
+
 -- a triplet part, a bound, a header or DO expression: INTEGER, of rank 0
 unfoldable pub scalar_faults : ℕ → Option Typed → List Refusal
-scalar_faults line t = when (is_other_type false t) line kind.TypeWrong ++ when (is_above 0 t) line kind.RankWrong
+scalar_faults line t = integer_faults 0 line t
 
 abbrev pub is_scalar : Option Typed → Bool
 is_scalar None = false
@@ -94,7 +92,7 @@ is_scalar (Some t) = not t.truth && nat_eq t.rank 0
 
 -- a subscript that is no triplet: INTEGER, of rank 0 or 1
 unfoldable pub subscript_faults : ℕ → Option Typed → List Refusal
-subscript_faults line t = when (is_other_type false t) line kind.TypeWrong ++ when (is_above 1 t) line kind.RankWrong
+subscript_faults line t = integer_faults 1 line t
 
 abbrev pub with_subscript : Subscripts → Option Typed → Subscripts
 with_subscript s None = record { sound = false; rank = s.rank; vectors = s.vectors }
@@ -158,75 +156,31 @@ vector_type inside count a =
 
 -- ---- calls
 
-abbrev pub is_name : Expr → Bool
-is_name (Named x) = true
-is_name _ = false
-
-abbrev pub is_digits : Expr → Bool
-is_digits (Number n) = true
-is_digits TooWide = true
-is_digits _ = false
-
-abbrev pub is_one_name : List Expr → Bool
-is_one_name (x ∷ []) = is_name x
-is_one_name _ = false
-
-abbrev pub is_with_dimension : List Expr → Bool
-is_with_dimension (x ∷ d ∷ []) = is_name x && is_digits d
-is_with_dimension _ = false
-
--- the number of arguments is right, and those that have to be a name or a digit string are
-unfoldable pub takes : CallWord → List Expr → Bool
-takes word.Abs es = nat_eq (length es) 1
-takes word.Mod es = nat_eq (length es) 2
-takes word.Modulo es = nat_eq (length es) 2
-takes word.Min es = nat_le 2 (length es)
-takes word.Max es = nat_le 2 (length es)
-takes word.Merge es = nat_eq (length es) 3
-takes word.Size es = is_one_name es || is_with_dimension es
-takes word.Lbound es = is_with_dimension es
-takes word.Ubound es = is_with_dimension es
-takes word.Allocated es = is_one_name es
-takes _ es = nat_eq (length es) 1
-
-abbrev pub is_inquiry : CallWord → Bool
-is_inquiry word.Size = true
-is_inquiry word.Lbound = true
-is_inquiry word.Ubound = true
-is_inquiry word.Allocated = true
-is_inquiry _ = false
-
-abbrev pub is_reduction : CallWord → Bool
-is_reduction word.Sum = true
-is_reduction word.Product = true
-is_reduction word.Minval = true
-is_reduction word.Maxval = true
-is_reduction word.Count = true
-is_reduction word.Any = true
-is_reduction word.All = true
-is_reduction _ = false
-
 -- MERGE chooses by its last argument, which is LOGICAL, between two of one type
 abbrev pub is_wrong_choice : Arguments → Bool
 is_wrong_choice a = a.truths_before && a.numbers_before || is_other_type true a.last
 
--- an argument of the wrong type, or two of different type
+-- an argument of another type than is taken, or two of different type
+abbrev pub is_wrong_for : ValueType → Arguments → Bool
+is_wrong_for integer a = a.truths
+is_wrong_for logical a = a.numbers
+is_wrong_for either a = is_wrong_choice a
+
 abbrev pub has_wrong_type : CallWord → Arguments → Bool
-has_wrong_type word.Merge a = is_wrong_choice a
-has_wrong_type word.Count a = a.numbers
-has_wrong_type word.Any a = a.numbers
-has_wrong_type word.All a = a.numbers
-has_wrong_type _ a = a.truths
+has_wrong_type w a = is_wrong_for (call_sort w).taken a
 
 -- arguments whose ranks differ and are not 0; of a reduction, one of rank 0
 abbrev pub has_wrong_rank : CallWord → Arguments → Bool
 has_wrong_rank w a = if is_reduction w then a.scalars else a.mixed
 
+-- what is given is LOGICAL
+abbrev pub is_truth_for : ValueType → Arguments → Bool
+is_truth_for integer a = false
+is_truth_for logical a = true
+is_truth_for either a = a.truths_before
+
 abbrev pub call_gives_truth : CallWord → Arguments → Bool
-call_gives_truth word.Merge a = a.truths_before
-call_gives_truth word.Any a = true
-call_gives_truth word.All a = true
-call_gives_truth _ a = false
+call_gives_truth w a = is_truth_for (call_sort w).given a
 
 unfoldable pub call_faults : ℕ → Bool → CallWord → Arguments → List Refusal
 call_faults line inside w a =
@@ -242,8 +196,7 @@ call_type inside w a =
 -- ---- inquiries
 
 abbrev pub is_allocated_word : CallWord → Bool
-is_allocated_word word.Allocated = true
-is_allocated_word _ = false
+is_allocated_word w = (call_sort w).allocation
 
 -- a dimension outside the rank, or none where the rank is 0
 abbrev pub is_outside : ℕ → List Expr → Bool

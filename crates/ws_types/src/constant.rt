@@ -115,10 +115,7 @@ pub fn is_sign(op: UnOp) -> bool
 pub fn is_arithmetic(op: BinOp) -> bool
     ensures { result ≡ constants.is_arithmetic op }
 {
-    match op {
-        BinOp::Add | BinOp::Sub | BinOp::Mul | BinOp::Div => true,
-        _ => false,
-    }
+    matches!(op, BinOp::Add | BinOp::Sub | BinOp::Mul | BinOp::Div)
 }
 
 fn number(n: u32) -> Constancy
@@ -175,19 +172,13 @@ pub fn truth_constancy(e: &Expr) -> Constancy
 fn is_no_constant(value: Constancy) -> bool
     ensures { result ≡ constants.is_no_constant value }
 {
-    match value {
-        Constancy::NotConstant => true,
-        _ => false,
-    }
+    matches!(value, Constancy::NotConstant)
 }
 
 fn has_no_value(value: Constancy) -> bool
     ensures { result ≡ constants.has_no_value value }
 {
-    match value {
-        Constancy::NoValue => true,
-        _ => false,
-    }
+    matches!(value, Constancy::NoValue)
 }
 
 pub fn value_of(value: Constancy) -> Option<i32>

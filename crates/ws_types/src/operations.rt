@@ -1,6 +1,6 @@
 //! The rules on operators, subscripts, constructors and calls.
 
-ghost use Rattle.std.specs.Prelude.{◌≡◌, ◌<◌};
+ghost use Rattle.std.specs.Prelude.{◌≡◌, ◌<◌, if◌then◌else◌, Some, None};
 ghost use Rattle.ws_types.specs.Kinds.{least_from};
 ghost use Rattle.ws_types.specs.Operations as operations;
 
@@ -16,28 +16,22 @@ const ITEM_LIMIT: usize = 256;
 fn takes_truth(op: UnOp) -> bool
     ensures { result ≡ operations.takes_truth op }
 {
-    match op {
-        UnOp::Minus | UnOp::Plus => false,
-        UnOp::Not => true,
-    }
+    matches!(op, UnOp::Not)
 }
 
 fn joins_truths(op: BinOp) -> bool
     ensures { result ≡ operations.joins_truths op }
 {
-    match op {
-        BinOp::And | BinOp::Or | BinOp::Eqv | BinOp::Neqv => true,
-        _ => false,
-    }
+    matches!(op, BinOp::And | BinOp::Or | BinOp::Eqv | BinOp::Neqv)
 }
 
 fn gives_truth(op: BinOp) -> bool
     ensures { result ≡ operations.gives_truth op }
 {
-    match op {
-        BinOp::Add | BinOp::Sub | BinOp::Mul | BinOp::Div | BinOp::Pow => false,
-        _ => true,
-    }
+    !matches!(
+        op,
+        BinOp::Add | BinOp::Sub | BinOp::Mul | BinOp::Div | BinOp::Pow
+    )
 }
 
 fn same_truth(a: bool, b: bool) -> bool
@@ -64,6 +58,13 @@ pub fn is_above(rank: usize, typed: Option<Typed>) -> bool
         None => false,
         Some(typed) => rank < typed.rank,
     }
+}
+
+/// The type and rank of what no rule refuses.
+fn unless(refused: bool, typed: Typed) -> Option<Typed>
+    ensures { result ≡ (if refused then None else Some typed) }
+{
+    if refused { None } else { Some(typed) }
 }
 
 fn differ(m: usize, n: usize) -> bool
@@ -133,18 +134,22 @@ pub fn binary(
     }
 }
 
+/// An INTEGER of at most this rank.
+#[tactic(auto, using(crate::proofs::Appended::least_rules))]
+fn check_integer(found: &mut Option<Refusal>, rank: usize, line: u32, typed: Option<Typed>)
+    ensures { found.new ≡ least_from found.old (operations.integer_faults rank line typed) }
+{
+    let wrong = is_other_type(false, typed);
+    note(found, wrong, line, RefusalKind::TypeWrong);
+    note(found, is_above(rank, typed), line, RefusalKind::RankWrong);
+}
+
 /// A triplet part, a bound, a header or DO expression: INTEGER, of rank 0.
-#[tactic(auto, using(crate::proofs::Appended::least_rules), unfolding(crate::specs::Operations::scalar_faults))]
+#[tactic(auto, unfolding(crate::specs::Operations::scalar_faults))]
 pub fn check_scalar(found: &mut Option<Refusal>, line: u32, typed: Option<Typed>)
     ensures { found.new ≡ least_from found.old (operations.scalar_faults line typed) }
 {
-    note(
-        found,
-        is_other_type(false, typed),
-        line,
-        RefusalKind::TypeWrong,
-    );
-    note(found, is_above(0, typed), line, RefusalKind::RankWrong);
+    check_integer(found, 0, line, typed);
 }
 
 pub fn is_scalar(typed: Option<Typed>) -> bool
@@ -157,17 +162,11 @@ pub fn is_scalar(typed: Option<Typed>) -> bool
 }
 
 /// A subscript that is no triplet: INTEGER, of rank 0 or 1 (Fortran 2018, 9.5.3).
-#[tactic(auto, using(crate::proofs::Appended::least_rules), unfolding(crate::specs::Operations::subscript_faults))]
+#[tactic(auto, unfolding(crate::specs::Operations::subscript_faults))]
 pub fn check_subscript(found: &mut Option<Refusal>, line: u32, typed: Option<Typed>)
     ensures { found.new ≡ least_from found.old (operations.subscript_faults line typed) }
 {
-    note(
-        found,
-        is_other_type(false, typed),
-        line,
-        RefusalKind::TypeWrong,
-    );
-    note(found, is_above(1, typed), line, RefusalKind::RankWrong);
+    check_integer(found, 1, line, typed);
 }
 
 pub fn with_subscript(subscripts: Subscripts, typed: Option<Typed>) -> Subscripts
@@ -295,88 +294,28 @@ pub fn vector(
     note(found, left_out, line, RefusalKind::Unsupported);
     note(found, mixed, line, RefusalKind::TypeWrong);
     note(found, many, line, RefusalKind::OverLimit);
-    if left_out || mixed || many || !items.sound {
-        None
-    } else {
-        Some(Typed {
-            truth: items.truths,
-            rank: 1,
-        })
-    }
-}
-
-fn is_name(e: &Expr) -> bool
-    ensures { result ≡ operations.is_name e.now }
-{
-    match e {
-        Expr::Named(_) => true,
-        _ => false,
-    }
-}
-
-fn is_digits(e: &Expr) -> bool
-    ensures { result ≡ operations.is_digits e.now }
-{
-    match e {
-        Expr::Number(_) | Expr::TooWide => true,
-        _ => false,
-    }
-}
-
-fn is_one_name(es: &[Expr]) -> bool
-    ensures { result ≡ operations.is_one_name es.now }
-{
-    match es {
-        [x] => is_name(x),
-        _ => false,
-    }
-}
-
-fn is_with_dimension(es: &[Expr]) -> bool
-    ensures { result ≡ operations.is_with_dimension es.now }
-{
-    match es {
-        [x, d] => is_name(x) && is_digits(d),
-        _ => false,
-    }
-}
-
-/// The number of arguments is right, and those that have to be a name or a digit string are.
-#[tactic(auto, unfolding(crate::specs::Operations::takes))]
-pub fn takes(word: CallWord, es: &[Expr]) -> bool
-    ensures { result ≡ operations.takes word es.now }
-{
-    match word {
-        CallWord::Mod | CallWord::Modulo => es.len() == 2,
-        CallWord::Min | CallWord::Max => 2 <= es.len(),
-        CallWord::Merge => es.len() == 3,
-        CallWord::Size => is_one_name(es) || is_with_dimension(es),
-        CallWord::Lbound | CallWord::Ubound => is_with_dimension(es),
-        CallWord::Allocated => is_one_name(es),
-        _ => es.len() == 1,
-    }
+    let typed = Typed {
+        truth: items.truths,
+        rank: 1,
+    };
+    unless(left_out || mixed || many || !items.sound, typed)
 }
 
 pub fn is_inquiry(word: CallWord) -> bool
     ensures { result ≡ operations.is_inquiry word }
 {
-    match word {
-        CallWord::Size | CallWord::Lbound | CallWord::Ubound | CallWord::Allocated => true,
-        _ => false,
-    }
+    matches!(
+        word,
+        CallWord::Size | CallWord::Lbound | CallWord::Ubound | CallWord::Allocated
+    )
 }
 
 pub fn is_reduction(word: CallWord) -> bool
     ensures { result ≡ operations.is_reduction word }
 {
     match word {
-        CallWord::Sum
-        | CallWord::Product
-        | CallWord::Minval
-        | CallWord::Maxval
-        | CallWord::Count
-        | CallWord::Any
-        | CallWord::All => true,
+        CallWord::Sum | CallWord::Product | CallWord::Minval | CallWord::Maxval => true,
+        CallWord::Count | CallWord::Any | CallWord::All => true,
         _ => false,
     }
 }
@@ -428,29 +367,26 @@ pub fn call(
     ensures faults { found.new ≡ least_from found.old (operations.call_faults line inside word arguments) }
 {
     let reduction = is_reduction(word);
+    let typed = Typed {
+        truth: call_gives_truth(word, arguments),
+        rank: if reduction { 0 } else { arguments.rank },
+    };
     let left_out = inside && reduction;
     let wrong_type = has_wrong_type(word, arguments);
     let wrong_rank = has_wrong_rank(word, arguments);
     note(found, left_out, line, RefusalKind::Unsupported);
     note(found, wrong_type, line, RefusalKind::TypeWrong);
     note(found, wrong_rank, line, RefusalKind::RankWrong);
-    if left_out || wrong_type || wrong_rank || !arguments.sound {
-        None
-    } else {
-        Some(Typed {
-            truth: call_gives_truth(word, arguments),
-            rank: if reduction { 0 } else { arguments.rank },
-        })
-    }
+    unless(
+        left_out || wrong_type || wrong_rank || !arguments.sound,
+        typed,
+    )
 }
 
 fn is_allocated(word: CallWord) -> bool
     ensures { result ≡ operations.is_allocated_word word }
 {
-    match word {
-        CallWord::Allocated => true,
-        _ => false,
-    }
+    matches!(word, CallWord::Allocated)
 }
 
 fn is_outside(rank: usize, es: &[Expr]) -> bool

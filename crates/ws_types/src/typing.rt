@@ -9,12 +9,12 @@ ghost use Rattle.ws_types.specs.Operations.{no_subscripts, no_arguments, is_scal
 use crate::least::note;
 use crate::names::{check_name, name_type, standing_of};
 use crate::operations::{
-    binary, call, check_scalar, check_subscript, inquiry, is_inquiry, is_scalar, part, takes,
-    unary, vector, with_argument, with_subscript, with_triplet,
+    binary, call, check_scalar, check_subscript, inquiry, is_inquiry, is_scalar, part, unary,
+    vector, with_argument, with_subscript, with_triplet,
 };
 use crate::types::{Arguments, Row, Standing, Subscripts, Typed};
 use ws_base::{CallWord, Name, Refusal, RefusalKind};
-use ws_tree::{Expr, Sub};
+use ws_tree::{Expr, Sub, takes};
 
 /// The greatest digit string.
 const NUMBER_LIMIT: u32 = 2_147_483_647;
