@@ -1,2 +1,2 @@
-mod Compute
+pub mod Compute
 pub mod Walks

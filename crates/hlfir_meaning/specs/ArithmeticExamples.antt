@@ -1,12 +1,25 @@
 -- Examples: the order of operations, reductions and inquiries. Each stands with its source; its module, the lines of its data and those of its report follow.
-use Rattle.std.specs.Prelude.{false, true, [], ◌∷◌, ◌++◌, codes, pos}
+use Rattle.std.specs.Prelude.{false, true, List, [], ◌∷◌, ◌++◌, codes, pos}
 use Rattle.hlfir_ops.specs.declared.kinds.Elem.TheVariants.{I32, I1}
 use Rattle.hlfir_ops.specs.declared.what.SubKind.TheVariants as sub
 use Rattle.hlfir_ops.specs.declared.what.ValueUnary.TheVariants as un
 use Rattle.hlfir_ops.specs.declared.what.ValueBinary.TheVariants as bin
 use Rattle.hlfir_ops.specs.declared.what.BoundWord.TheVariants as word
 use Rattle.hlfir_ops.specs.declared.what.Reduction.TheVariants as red
+use Rattle.hlfir_ops.specs.declared.op.Op.{Op}
 use Rattle.hlfir_meaning.specs.Example.{Example, example, declared, allocatable, upto, constant, minus, truth_constant, unary, binary, select, load, box, bound, size, allocated, element, section, vector, apply, elemental, reduce, yields_element, assign, workshare, allocate, arrays, scalars, constants, yield, yield_all, fill}
+
+-- these variables, of which the last three are b, c and d; the first one becomes what these ops make of `(b/c) + d`, value 20
+abbrev third_division_fails : List Op → List Op → Example
+third_division_fails variables last = example variables
+    (fill 2 4 (constants (2147483647 ∷ 1 ∷ 1 ∷ [])) 1
+    ∷ fill 3 8 (constants (1 ∷ 1 ∷ 0 ∷ [])) 2
+    ∷ fill 4 12 (constants (1 ∷ 1 ∷ 1 ∷ [])) 3
+    ∷ workshare 5
+    (assign 6
+    (elemental I32 1 (apply I32 1 ∷ apply I32 2 ∷ binary bin.Div 17 18 ∷ yields_element 19 ∷ [])
+    ∷ elemental I32 1 (apply I32 16 ∷ apply I32 3 ∷ binary bin.Add 21 22 ∷ yields_element 23 ∷ []) ∷ last)
+    (yield 0) ∷ []) ∷ []) [] (codes "fault DivideByZero line 6 element 3" ∷ [])
 
 --     integer :: a(3), b(3), c(3), d(3)
 --     b = [2147483647, 1, 1]
@@ -17,15 +30,7 @@ use Rattle.hlfir_meaning.specs.Example.{Example, example, declared, allocatable,
 --     !$omp end parallel workshare
 --     end
 unfoldable pub first_operation_that_fails : Example
-first_operation_that_fails = example (arrays (codes "a" ∷ codes "b" ∷ codes "c" ∷ codes "d" ∷ []) 3)
-    (fill 2 4 (constants (2147483647 ∷ 1 ∷ 1 ∷ [])) 1
-    ∷ fill 3 8 (constants (1 ∷ 1 ∷ 0 ∷ [])) 2
-    ∷ fill 4 12 (constants (1 ∷ 1 ∷ 1 ∷ [])) 3
-    ∷ workshare 5
-    (assign 6
-    (elemental I32 1 (apply I32 1 ∷ apply I32 2 ∷ binary bin.Div 17 18 ∷ yields_element 19 ∷ [])
-    ∷ elemental I32 1 (apply I32 16 ∷ apply I32 3 ∷ binary bin.Add 21 22 ∷ yields_element 23 ∷ []) ∷ yield 20)
-    (yield 0) ∷ []) ∷ []) [] (codes "fault DivideByZero line 6 element 3" ∷ [])
+first_operation_that_fails = third_division_fails (arrays (codes "a" ∷ codes "b" ∷ codes "c" ∷ codes "d" ∷ []) 3) (yield 20)
 
 --     integer :: m, q, e(3)
 --     !$omp parallel workshare
@@ -69,15 +74,7 @@ sum_out_of_range = example (scalars (codes "n" ∷ []))
 --     !$omp end parallel workshare
 --     end
 unfoldable pub fault_inside_a_sum : Example
-fault_inside_a_sum = example (scalars (codes "n" ∷ []) ++ arrays (codes "b" ∷ codes "c" ∷ codes "d" ∷ []) 3)
-    (fill 2 4 (constants (2147483647 ∷ 1 ∷ 1 ∷ [])) 1
-    ∷ fill 3 8 (constants (1 ∷ 1 ∷ 0 ∷ [])) 2
-    ∷ fill 4 12 (constants (1 ∷ 1 ∷ 1 ∷ [])) 3
-    ∷ workshare 5
-    (assign 6
-    (elemental I32 1 (apply I32 1 ∷ apply I32 2 ∷ binary bin.Div 17 18 ∷ yields_element 19 ∷ [])
-    ∷ elemental I32 1 (apply I32 16 ∷ apply I32 3 ∷ binary bin.Add 21 22 ∷ yields_element 23 ∷ []) ∷ reduce red.Sum 20 ∷ yield 24)
-    (yield 0) ∷ []) ∷ []) [] (codes "fault DivideByZero line 6 element 3" ∷ [])
+fault_inside_a_sum = third_division_fails (scalars (codes "n" ∷ []) ++ arrays (codes "b" ∷ codes "c" ∷ codes "d" ∷ []) 3) (reduce red.Sum 20 ∷ yield 24)
 
 --     integer :: n, a(3), b(2)
 --     !$omp parallel workshare

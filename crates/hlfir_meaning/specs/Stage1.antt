@@ -15,6 +15,7 @@ use Rattle.hlfir_ops.specs.declared.what.What.TheVariants as what
 use Rattle.hlfir_ops.specs.declared.op.ValueId.{ValueId}
 use Rattle.hlfir_ops.specs.declared.op.Op.{Op, out-Op}
 use Rattle.hlfir_ops.specs.declared.op.Region.{Region}
+use Rattle.hlfir_ops.specs.Sorts.{Settles, SettlesNothing, SettlesCopy, SettlesElements, sort_of}
 use Rattle.hlfir_ops.specs.RulesRegions.{ops_in, is_apply}
 use Rattle.hlfir_meaning.specs.Environments.{Selection, complete, one, range, listed, through, Deferred, body_of, Value, scalar, array, part, computed, Environment, with_value, standing, OpRegion, Yielded, yielding, result, operand, scalar_in, variable_in, state_in}
 use Rattle.hlfir_meaning.specs.Operators.{Operation, unary_operation, binary_operation, select_operation, mask_last, reduction_word, operation_value}
@@ -132,10 +133,13 @@ abbrev pub subscript_numbers : List Op → List ℕ
 subscript_numbers = flat_map (λ op. subscripts_in (out-Op op).what (out-Op op).operands)
 
 -- An elemental or the copy of an array, as a vector subscript, is evaluated whole where it stands.
+abbrev pub is_whole_as : Settles → Bool → Bool
+is_whole_as SettlesNothing is_subscript = false
+is_whole_as SettlesCopy is_subscript = is_subscript
+is_whole_as SettlesElements is_subscript = is_subscript
+
 abbrev pub is_whole : What → Bool → Bool
-is_whole what.Elemental is_subscript = is_subscript
-is_whole what.AsExpr is_subscript = is_subscript
-is_whole w is_subscript = false
+is_whole w is_subscript = is_whole_as (sort_of w).settles is_subscript
 
 abbrev pub settled : Bool → Yielded → Staged Value
 settled true y = whole y >>= (λ xs. Ok (vector xs))

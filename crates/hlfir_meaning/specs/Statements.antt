@@ -20,6 +20,7 @@ use Rattle.hlfir_ops.specs.declared.op.Op.{Op, Op', out-Op}
 use Rattle.hlfir_ops.specs.declared.op.Region.{Region'}
 use Rattle.hlfir_ops.specs.Trees.{Ops, end_ops, more_ops, Regions, end_regions, more_regions}
 use Rattle.hlfir_ops.specs.Numbers.{op_numbers}
+use Rattle.hlfir_ops.specs.Sorts.{Items, Alone, Allocates, Frees, Reads, sort_of}
 use Rattle.hlfir_ops.specs.RulesRegions.{ops_in}
 use Rattle.hlfir_ops.specs.RulesStatements.{is_also}
 use Rattle.hlfir_meaning.specs.Environments.{Value, Environment, of_variables, OpRegion, standing, Yielded, result, operand, scalar_in, variable_in, state_in}
@@ -126,11 +127,14 @@ simple_block = in_turn (λ n op vars. simple n op (out-Op op).what vars)
 -- ---- statements that hold no other, and regions
 
 -- one statement, with all its items where it has some
+abbrev pub at_once_as : Items → List ℕ → ℕ → Op → List Item → What → State → Result State Fault
+at_once_as Alone input n op is w s = changed s (simple n op w s.vars)
+at_once_as Allocates input n op is w s = changed s (at_line (out-Op op).line (allocate s.vars is))
+at_once_as Frees input n op is w s = changed s (at_line (out-Op op).line (deallocate s.vars is))
+at_once_as Reads input n op is w s = at_line (out-Op op).line (read input s is)
+
 abbrev pub at_once : List ℕ → ℕ → Op → List Item → What → State → Result State Fault
-at_once input n op is (what.Allocmem also) s = changed s (at_line (out-Op op).line (allocate s.vars is))
-at_once input n op is (what.Freemem also) s = changed s (at_line (out-Op op).line (deallocate s.vars is))
-at_once input n op is (what.Read also) s = at_line (out-Op op).line (read input s is)
-at_once input n op is w s = changed s (simple n op w s.vars)
+at_once input n op is w s = at_once_as (sort_of w).items input n op is w s
 
 -- It counts first. A region counts its statements, and is entered only where they pass no limit.
 abbrev pub single : List ℕ → ℕ → Op → List Item → What → State → Run

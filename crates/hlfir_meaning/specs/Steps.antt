@@ -1,13 +1,15 @@
 -- The steps of a plain assignment and of a WHERE: masks and assignments in printed order, each under a control.
-use Rattle.std.specs.Prelude.{ℕ, suc, ◌+◌, Bool, List, [], ◌∷◌, ◌++◌, Option, Some, None, Result, Ok}
+use Rattle.std.specs.Prelude.{ℕ, suc, ◌+◌, Bool, false, List, [], ◌∷◌, ◌++◌, Option, Some, None, Result, Ok}
 use mathlib.Core.Former.{Count}
 use Rattle.ws_base.specs.declared.fault.Fault.{Fault}
 use Rattle.ws_base.specs.Outcomes.{◌>>=◌}
 use Rattle.ws_space.specs.declared.state.Var.{Var}
 use Rattle.ws_space.specs.Masks.{Control, everywhere, held, failed}
+use Rattle.hlfir_ops.specs.declared.what.What.{What}
 use Rattle.hlfir_ops.specs.declared.what.What.TheVariants as what
 use Rattle.hlfir_ops.specs.declared.op.Op.{Op, Op', out-Op}
 use Rattle.hlfir_ops.specs.declared.op.Region.{Region, Region', out-Region}
+use Rattle.hlfir_ops.specs.Sorts.{Controls, ControlsNothing, ControlsLeft, ControlsMask, ControlsElseMask, sort_of}
 use Rattle.hlfir_ops.specs.Trees.{Ops, end_ops, more_ops, Regions, end_regions, more_regions}
 use Rattle.hlfir_ops.specs.Numbers.{op_numbers, numbers_of}
 use Rattle.hlfir_ops.specs.RulesRegions.{ops_in}
@@ -79,17 +81,26 @@ op_region n r = record { first = n; ops = (out-Region r).ops }
 abbrev pub past : ℕ → Region → ℕ
 past n r = numbers_of (out-Region r).ops + n
 
+-- Nothing but assignments and WHERE stands in a WHERE: what an assignment is there, and what a WHERE is.
+abbrev pub inside_as : Controls → Numbered → Numbered → Numbered
+inside_as ControlsNothing one more = nothing
+inside_as ControlsLeft one more = one
+inside_as ControlsMask one more = more
+inside_as ControlsElseMask one more = nothing
+
+abbrev pub reallocates : What → Bool
+reallocates (what.Assign realloc) = realloc
+reallocates _ = false
+
 abbrev mutual
   -- the ops of a body, from the value with this number on
   pub block : {m : Count} → Control → ℕ → Ops m → Numbered
   block c n end_ops = nothing
   block c n (more_ops op ops) = both (inside c n op) (block c (op_numbers op + n) ops)
 
-  -- Nothing but assignments and WHERE stands in a WHERE.
   pub inside : Control → ℕ → Op → Numbered
-  inside c n (Op' (what.Assign realloc) line os kind h regions) = event (assigned (assignment_of c line realloc n (out-Op (Op' (what.Assign realloc) line os kind h regions)).regions))
-  inside c n (Op' what.Masked line os kind _ regions) = under_mask c line n regions
-  inside c n (Op' w line os kind _ regions) = nothing
+  inside c n (Op' w line os kind h regions) =
+      inside_as (sort_of w).controls (event (assigned (assignment_of c line (reallocates w) n (out-Op (Op' w line os kind h regions)).regions))) (under_mask c line n regions)
 
   -- a mask, its body, and what follows it under the pending mask
   pub under_mask : {m : Count} → Control → ℕ → ℕ → Regions m → Numbered
