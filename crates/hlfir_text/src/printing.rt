@@ -102,16 +102,20 @@ fn put_index(
     text.extend_from_slice(b" {\n")
 }
 
-/// What stands between two regions. The third one of a WHERE has no braces.
-fn put_between(
+/// What stands before the region of this number: an opening brace, or what stands between two regions. The third one of a WHERE has no
+/// braces.
+fn put_opening(
     text: &mut Vec<u8>,
     depth: usize,
     what: &What,
     number: usize,
     k: usize,
 ) -> Result<(), AllocError>
-    ensures { OnOk result (text.new.items ≡ text.old.items ++ lines.between depth what.now number k) }
+    ensures { OnOk result (text.new.items ≡ text.old.items ++ lines.opening depth what.now number k) }
 {
+    if k == 0 {
+        return text.extend_from_slice(b" {\n");
+    }
     match what {
         What::Assign { .. } => put_indented(text, depth, b"} to {\n"),
         What::Masked => {
@@ -124,23 +128,6 @@ fn put_between(
         What::Elsewhere => put_indented(text, depth, b"} do {\n"),
         What::Forall(_) => put_index(text, depth, number, names_in(what, k)),
         _ => put_indented(text, depth, b"} {\n"),
-    }
-}
-
-/// What stands before the region of this number.
-fn put_opening(
-    text: &mut Vec<u8>,
-    depth: usize,
-    what: &What,
-    number: usize,
-    k: usize,
-) -> Result<(), AllocError>
-    ensures { OnOk result (text.new.items ≡ text.old.items ++ lines.opening depth what.now number k) }
-{
-    if k == 0 {
-        text.extend_from_slice(b" {\n")
-    } else {
-        put_between(text, depth, what, number, k)
     }
 }
 
