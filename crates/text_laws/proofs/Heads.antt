@@ -39,11 +39,37 @@ IsToldBy b (Some k) = IsTold b k
 
 -- as many operands as stand in the line
 abbrev pub HasOperands : What → List ValueId → Type 0
+HasOperands (what.Declare name) os = Unit {0}
+HasOperands (what.Assign realloc) os = Unit {0}
+HasOperands what.Masked os = Unit {0}
+HasOperands what.Elsewhere os = Unit {0}
+HasOperands (what.Forall names) os = Unit {0}
+HasOperands what.ForallMask os = Unit {0}
+HasOperands what.Workshare os = Unit {0}
+HasOperands what.DoLoop os = Unit {0}
+HasOperands (what.Allocmem also) os = Unit {0}
+HasOperands (what.Freemem also) os = Unit {0}
+HasOperands (what.Read also) os = Unit {0}
+HasOperands what.Yield os = Unit {0}
+HasOperands what.YieldElement os = Unit {0}
+HasOperands (what.Constant value) os = Unit {0}
+HasOperands (what.Unary op) os = Unit {0}
+HasOperands (what.Binary op) os = Unit {0}
+HasOperands what.Select os = Unit {0}
+HasOperands what.Load os = Unit {0}
+HasOperands what.Boxed os = Unit {0}
+HasOperands (what.Bound w dim) [] = ⊥
 HasOperands (what.Bound w dim) (v ∷ []) = Unit {0}
-HasOperands (what.Bound w dim) _ = ⊥
-HasOperands (what.Designate subs) (r ∷ more) = Fills subs more
+HasOperands (what.Bound w dim) (v ∷ u ∷ more) = ⊥
+HasOperands what.Size os = Unit {0}
+HasOperands what.Allocated os = Unit {0}
 HasOperands (what.Designate subs) [] = ⊥
-HasOperands _ _ = Unit {0}
+HasOperands (what.Designate subs) (r ∷ more) = Fills subs more
+HasOperands what.Vector os = Unit {0}
+HasOperands what.AsExpr os = Unit {0}
+HasOperands what.Elemental os = Unit {0}
+HasOperands what.Apply os = Unit {0}
+HasOperands (what.Reduce r) os = Unit {0}
 
 abbrev pub HasValue : What → Option ValueKind → Type 0
 HasValue (what.Constant v) k = has_constant v k ≡ true

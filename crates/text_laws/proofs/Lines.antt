@@ -21,8 +21,8 @@ use Rattle.hlfir_ops.specs.Numbers.{own_numbers}
 use Rattle.hlfir_text.specs.declared.form.Form.{Form}
 use Rattle.hlfir_text.specs.declared.form.Form.TheVariants as form
 use Rattle.hlfir_text.specs.KindText.{kind_part}
-use Rattle.hlfir_text.specs.OperandText.{first_separator, values_text, designator_text, operands_text}
-use Rattle.hlfir_text.specs.WordText.{word, mark}
+use Rattle.hlfir_text.specs.OperandText.{first_separator, values_text, designator_text}
+use Rattle.hlfir_text.specs.OpText.{word, mark, operands_text}
 use Rattle.hlfir_text.specs.ModuleText.{indent, line_part, own_part, result_part, head_text}
 use Rattle.text_laws.specs.Shown.{shown_line, shown_result}
 use Rattle.text_laws.specs.Writable.{fits_32}

@@ -10,7 +10,8 @@ use Rattle.hlfir_ops.specs.declared.op.Region.{Region, Region'}
 use Rattle.hlfir_ops.specs.Numbers.{names_in, ops_numbers, regions_numbers}
 use Rattle.hlfir_ops.specs.Trees.{Regions, end_regions, more_regions, region_of}
 use Rattle.hlfir_text.specs.declared.form.Form.{Form}
-use Rattle.hlfir_text.specs.OperandText.{first_separator, yields_in}
+use Rattle.hlfir_text.specs.OpText.{yields_in}
+use Rattle.hlfir_text.specs.OperandText.{first_separator}
 use Rattle.hlfir_text.specs.ModuleText.{indent, opening, between, closing, brace, depth_in, names_text, count, ops_text, regions_text}
 use Rattle.text_laws.specs.Shown.{shown_regions}
 use Rattle.text_laws.proofs.Runs.{joined}

@@ -14,7 +14,7 @@ use Rattle.hlfir_ops.specs.Trees.{Ops, end_ops, more_ops, Regions, end_regions, 
 use Rattle.hlfir_ops.specs.RulesForms.{has_regions}
 use Rattle.hlfir_text.specs.declared.form.Form.{Form}
 use Rattle.hlfir_text.specs.OperandText.{comma, value_text}
-use Rattle.hlfir_text.specs.WordText.{word}
+use Rattle.hlfir_text.specs.OpText.{word}
 use Rattle.hlfir_text.specs.ModuleText.{indent, result_part, head_text, names_text, count, lone_part, op_text, ops_text, regions_text}
 use Rattle.text_laws.specs.Writable.{is_name}
 use Rattle.text_laws.proofs.Runs.{heads, tails, joined}

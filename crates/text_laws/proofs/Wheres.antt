@@ -6,7 +6,7 @@ use Rattle.hlfir_ops.specs.declared.what.What.TheVariants as what
 use Rattle.hlfir_ops.specs.declared.op.Region.{Region, Region'}
 use Rattle.hlfir_ops.specs.Trees.{Regions, end_regions, more_regions}
 use Rattle.hlfir_ops.specs.RulesForms.{has_regions}
-use Rattle.hlfir_text.specs.OperandText.{yields_in}
+use Rattle.hlfir_text.specs.OpText.{yields_in}
 use Rattle.hlfir_text.specs.ModuleText.{indent, count, regions_text}
 use Rattle.text_laws.proofs.Indents.{ended, ended-indent, ended-outer}
 use Rattle.text_laws.proofs.Goods.{IsFilled}

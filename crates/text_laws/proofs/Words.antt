@@ -14,7 +14,7 @@ use Rattle.hlfir_ops.specs.declared.what.BoundWord.{BoundWord}
 use Rattle.hlfir_ops.specs.declared.what.BoundWord.TheVariants as bound
 use Rattle.hlfir_ops.specs.declared.what.Reduction.{Reduction}
 use Rattle.hlfir_ops.specs.declared.what.Reduction.TheVariants as reduction
-use Rattle.hlfir_text.specs.WordText.{word}
+use Rattle.hlfir_text.specs.OpText.{word}
 
 -- ---- what an op holds beside its word
 
@@ -32,14 +32,32 @@ nothing = record { name = []; names = []; flag = false; value = pos 0; dim = 0; 
 abbrev pub held : What → Held
 held (what.Declare name) = record nothing { name = name }
 held (what.Assign realloc) = record nothing { flag = realloc }
+held what.Masked = nothing
+held what.Elsewhere = nothing
 held (what.Forall names) = record nothing { names = names }
+held what.ForallMask = nothing
+held what.Workshare = nothing
+held what.DoLoop = nothing
 held (what.Allocmem also) = record nothing { flag = also }
 held (what.Freemem also) = record nothing { flag = also }
 held (what.Read also) = record nothing { flag = also }
+held what.Yield = nothing
+held what.YieldElement = nothing
 held (what.Constant value) = record nothing { value = value }
+held (what.Unary op) = nothing
+held (what.Binary op) = nothing
+held what.Select = nothing
+held what.Load = nothing
+held what.Boxed = nothing
 held (what.Bound w dim) = record nothing { dim = dim }
+held what.Size = nothing
+held what.Allocated = nothing
 held (what.Designate subs) = record nothing { subs = subs }
-held _ = nothing
+held what.Vector = nothing
+held what.AsExpr = nothing
+held what.Elemental = nothing
+held what.Apply = nothing
+held (what.Reduce r) = nothing
 
 -- the op of the same word that holds this
 abbrev pub holding : Held → What → What

@@ -1,4 +1,6 @@
 //! Laws of texts of modules.
+//!
+//! Read `specs/Laws.antt` first (which modules have one text).
 #![tactic(auto)]
 
 mod laws;
