@@ -1,5 +1,5 @@
 -- The rules on operators, subscripts, constructors and calls.
-use Rattle.std.specs.Prelude.{ℕ, ◌+◌, Bool, true, false, not, ◌||◌, ◌&&◌, nat_lt, nat_le, nat_eq, max, if◌then◌else◌, List, [], ◌∷◌, ◌++◌, Option, Some, None, length}
+use Rattle.std.specs.Prelude.{ℕ, ◌+◌, Bool, true, false, not, ◌||◌, ◌&&◌, nat_lt, nat_eq, max, if◌then◌else◌, List, ◌∷◌, ◌++◌, Option, Some, None}
 use Rattle.ws_base.specs.declared.op.UnOp.{UnOp}
 use Rattle.ws_base.specs.declared.op.UnOp.TheVariants as un
 use Rattle.ws_base.specs.declared.op.BinOp.{BinOp}
