@@ -32,7 +32,7 @@ use Rattle.phase_board.specs.Closed.{AreClosed, IsOutcome, finished_of}
 use Rattle.phase_board.proofs.Moves.{sound_of}
 use Rattle.phase_board.proofs.Units.{held}
 use Rattle.phase_board.proofs.Words.{cell_word, count_word}
-use Rattle.phase_board.proofs.Results.{keyed, result_found}
+use Rattle.phase_board.proofs.Results.{keyed, result_found, key_stands}
 
 -- no phase has more finished units than a count of iterations
 few_finished : (r : Run) (k : CoreState) (entered : ℕ) → Ending (course_of r) k entered → CanRun (course_of r) → (t : ℕ) → t < length r.phases → (counts_at k t).numbers.finished ≤ 65536
@@ -45,7 +45,7 @@ closes key r id m t v full sights words slots k some_one e f =
     let h : Kept r f.0 = subst (λ (z : Run). Kept z f.0) k f.1.0 in
     let mine' = (h.seats id (view r (Of m t Ended full) sights) (f.1.1 ∙ ap (λ (z : View). some z) e)).1 in
     let end = ends (course_of r) h.core (sound_of r f.0 h) m (member t Ended full) mine'.1 some_one refl in
-    (h.core, sym f.2 ∙ h.words_are, (sound_of r f.0 h).cells_are, (sound_of r f.0 h).sized, end.0, end.1, few_finished r h.core end.0 end.1 (team_can r.phases r.opening r.team r.chunk h.may))
+    (h.core, sym f.2 ∙ h.words_are, (sound_of r f.0 h).cells_are, (sound_of r f.0 h).sized, end.0, end.1, few_finished r h.core end.0 end.1 (team_can r.phases r.opening r.team r.chunk h.may), h.may)
 
 -- the last pass tells that the words are those of an ended board
 pub closed_by : (b : Board) (p : Inside) (q : Held) → held p ≡ q → p.seat.me ≡ (view p.seat.me.0.run (Of p.member p.phase p.state p.full) p.seat.me.0.sights, []) → IsPassOf b q × (q.state ≡ Ended)
@@ -145,6 +145,7 @@ module _ (r : Run) (words closing finished : List ℕ) (entered key : ℕ) (a : 
     none = key_none;
     stopped = key_stopped;
     result_is = result_found r.chunk r.phases r.opening closing entered key within closing_after key_before key_last key_none key_stopped most;
+    has_key = key_stands r.chunk r.phases r.opening closing entered key within closing_after key_before key_last key_none key_stopped most r.team a.7;
     few = finished_few r words finished a enough short fins;
     finished_are = finished_at;
   }

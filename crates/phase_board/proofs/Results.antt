@@ -1,11 +1,15 @@
 -- The first phase that has a key, or the memory after all.
-use Rattle.std.proofs.Common.{◌≡◌, ℕ, zero, suc, ◌-◌, ◌<◌, ◌≤◌, Bool, if◌then◌else◌, List, [], ◌∷◌, length, sym, refl, ap, ◌∙◌, arith}
+use Rattle.std.proofs.Common.{◌≡◌, ℕ, zero, suc, ◌-◌, ◌<◌, ◌≤◌, Bool, if◌then◌else◌, List, [], ◌∷◌, length, sym, refl, ap, ◌∙◌, subst, arith}
 use Rattle.std.proofs.lemmas.Bool.{lt-ltb, le-ltb}
 use mathlib.Core.Logic.{dite}
 use native.Mathlib.Decide.{dec_le}
 use Rattle.phase_ops.specs.declared.phase.Phase.{Phase}
 use Rattle.phase_ops.specs.Phases.{Cells, none_yet, key, after, after_phase, Finished, Failed, later, result}
-use Rattle.team_core.specs.Laws.{phase_at}
+use Rattle.phase_ops.specs.Faults.{HasKey, HoldsKey}
+use Rattle.phase_ops.proofs.Courses.{memory_is, key_is}
+use Rattle.phase_ops.proofs.Held.{has_key, holds_key}
+use Rattle.team_core.specs.Laws.{MayStart, phase_at}
+use Rattle.team_core.proofs.Entering.{enters_well}
 use Rattle.phase_board.specs.Closed.{outcome_of}
 
 module _ (chunk : ℕ) where
@@ -53,3 +57,17 @@ module _ (chunk : ℕ) where
         let live = is_live s in
         first_fails ps m (entered - 1) found (omega (arith, live, within)) (λ t l. earlier t (omega (arith, l, live))) (last (entered - 1) (omega (arith, live))) s
         ∙ sym (ap (λ (b : Bool). if b then Failed (entered - 1) found else Finished closing) (lt-ltb found none_yet s)))
+
+    -- where a phase fails, its key has the parts of one of its keys
+    pub key_stands : (team : ℕ) → MayStart ps m team chunk → found < none_yet → (0 < entered) × HoldsKey (phase_at ps (entered - 1)) found
+    key_stands team may s =
+        let live = is_live s in
+        let t : ℕ = entered - 1 in
+        let at : t < length ps = omega (arith, live, within) in
+        let well = (enters_well ps m team chunk t (after ps m chunk t) may (record {
+          there = at;
+          keyless = λ s l. key_is ps m chunk team s (omega (arith, l, at)) ∙ earlier s (omega (arith, l, live));
+          cells_are = sym (memory_is ps m chunk team t (omega (arith, at)));
+        })).0 in
+        let e : keyed ps m t ≡ found = last t (omega (arith, live)) in
+        (live, holds_key (phase_at ps t) found (subst (λ (k : ℕ). HasKey (phase_at ps t) k) e (has_key (phase_at ps t) (after ps m chunk t) chunk may.chunk_is well (omega (arith, e, s)))))

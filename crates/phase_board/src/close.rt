@@ -1,8 +1,10 @@
 //! How a board ends.
 
-ghost use Rattle.std.specs.Prelude.{◌≡◌, ℕ, suc, ◌+◌, ◌*◌, ◌^◌, ◌<◌, ◌≤◌, length, slice_index, sum};
+ghost use Rattle.std.specs.Prelude.{◌≡◌, ℕ, suc, ◌+◌, ◌-◌, ◌*◌, ◌^◌, ◌<◌, ◌≤◌, length, slice_index, sum, MatchOption};
 ghost use Rattle.std.specs.Mem.Slots.{slots_items, slots_len, IsFull};
 ghost use Rattle.phase_ops.specs.Phases.{none_yet};
+ghost use Rattle.phase_ops.specs.Faults.{HasKey, IsFaultOf};
+ghost use Rattle.team_core.specs.Laws.{phase_at};
 ghost use Rattle.phase_board.specs.Passes.{AllDone};
 ghost use Rattle.phase_board.specs.Closed.{IsOutcome, finished_of};
 
@@ -10,9 +12,10 @@ use crate::board::{Board, Pass, Spare};
 use crate::memory::Memory;
 use crate::plays::{Glue, Run, View};
 use atomic_table::{Closed, Seat};
-use phase_ops::PhaseList;
+use phase_ops::{PhaseList, fault_of};
 use std::alloc::Global;
 use team_core::CellList;
+use ws_base::Fault;
 
 /// What a region did. It is made by `gather` alone.
 #[derive(Drop)]
@@ -189,12 +192,27 @@ impl ClosedBoard {
         self.entered
     }
 
-    /// The key of the last phase that was entered, the greatest `u64` for none.
+    /// The key of the last phase that was entered, the greatest `u64` for none. Any other is one that `fault_of` takes with
+    /// that phase.
     pub fn key(&self) -> u64
         ensures value { result ≡ self.now.key }
+        ensures stands { result < none_yet → (0 < self.now.entered) × HasKey (phase_at self.now.run.phases (self.now.entered - 1)) result }
         ensures outcome { IsOutcome self.now.run self.now.entered self.now.key self.now.closing self.now.finished }
     {
         self.key
+    }
+
+    /// The fault that ended the region, where one did: that of the last phase's key.
+    pub fn fault(&self) -> Option<Fault>
+        ensures { MatchOption result (self.now.key ≡ none_yet) (λ f. (self.now.key < none_yet) × IsFaultOf (phase_at self.now.run.phases (self.now.entered - 1)) self.now.key f) }
+    {
+        let key = self.key();
+        if key < u64::MAX {
+            let phases = self.run.phases.as_slice();
+            let at = self.entered as usize - 1;
+            return Some(fault_of(&phases[at], key));
+        }
+        None
     }
 
     /// How many units of a phase were finished: all, where it was entered, and else none.
