@@ -140,16 +140,22 @@ events_steps t (steps.assigned a ∷ es) ms =
 
 -- ---- the events of a WHERE have its pieces
 
+-- a mask, what it controls, and what follows
+masked_events : (t : List Row) (test : Expr) (inner after : List Event) (held_pieces after_pieces : List Piece) → flat_map (event_pieces t) inner ≡ held_pieces → flat_map (event_pieces t) after ≡ after_pieces →
+    p.mask_pieces t false test ++ flat_map (event_pieces t) (inner ++ after) ≡ p.mask_pieces t false test ++ held_pieces ++ after_pieces
+masked_events t test inner after held_pieces after_pieces first second =
+    ap (λ l. p.mask_pieces t false test ++ l) (flat_map-append (event_pieces t) inner after)
+    ∙ sym (append_assoc (p.mask_pieces t false test) (flat_map (event_pieces t) inner) (flat_map (event_pieces t) after))
+    ∙ ap (λ l. p.mask_pieces t false test ++ l ++ flat_map (event_pieces t) after) first
+    ∙ ap (λ l. p.mask_pieces t false test ++ held_pieces ++ l) second
+
 mutual
   body_events : (t : List Row) (c : Control) (line : ℕ) (b : Body) (k : ℕ) → flat_map (event_pieces t) (steps.inside c line b k).0 ≡ p.where_pieces t false b
   body_events t c line (body.Assign left right) k = append-nil (p.assigned_pieces t false left right)
   body_events t c line (body.Masked' test h block g rest) k =
       let inner = steps.block (held k) block (suc k) in
       let after = steps.otherwise (failed k) rest inner.1 in
-      ap (λ l. p.mask_pieces t false test ++ l) (flat_map-append (event_pieces t) inner.0 after.0)
-      ∙ sym (append_assoc (p.mask_pieces t false test) (flat_map (event_pieces t) inner.0) (flat_map (event_pieces t) after.0))
-      ∙ ap (λ l. p.mask_pieces t false test ++ l ++ flat_map (event_pieces t) after.0) (block_events t (held k) block (suc k))
-      ∙ ap (λ l. p.mask_pieces t false test ++ p.block_pieces t false block ++ l) (rest_events t (failed k) rest inner.1)
+      masked_events t test inner.0 after.0 (p.block_pieces t false block) (p.elses_pieces t false rest) (block_events t (held k) block (suc k)) (rest_events t (failed k) rest inner.1)
   body_events t c line (body.Forall' is m h block) k = refl
   body_events t c line (body.Loop' x l u s h block) k = refl
   body_events t c line (body.Allocate ps) k = refl
@@ -173,10 +179,7 @@ mutual
   rest_events t c (more_elses (Else' line (Some test) h block) rest) k =
       let inner = steps.block (held k) block (suc k) in
       let after = steps.otherwise (failed k) rest inner.1 in
-      ap (λ l. p.mask_pieces t false test ++ l) (flat_map-append (event_pieces t) inner.0 after.0)
-      ∙ sym (append_assoc (p.mask_pieces t false test) (flat_map (event_pieces t) inner.0) (flat_map (event_pieces t) after.0))
-      ∙ ap (λ l. p.mask_pieces t false test ++ l ++ flat_map (event_pieces t) after.0) (block_events t (held k) block (suc k))
-      ∙ ap (λ l. p.mask_pieces t false test ++ p.block_pieces t false block ++ l) (rest_events t (failed k) rest inner.1)
+      masked_events t test inner.0 after.0 (p.block_pieces t false block) (p.elses_pieces t false rest) (block_events t (held k) block (suc k)) (rest_events t (failed k) rest inner.1)
   rest_events t c (more_elses (Else' line None h block) rest) k = block_events t c block k ∙ sym (append-nil (p.block_pieces t false block))
 
 where_steps_are : (t : List Row) (line : ℕ) (b : Body) → steps_from [] (p.where_pieces t false b) ≡ map (step_pieces t) (where_steps line b)

@@ -1,12 +1,11 @@
 -- The sum over statements, one after another, and the tests on it.
 use Rattle.std.proofs.Common.{◌≡◌, refl, ap, sym, ◌∙◌, ℕ, ◌+◌, ◌<◌, ◌≤◌, min, max, nat_lt, Bool, false, ◌||◌, List, [], ◌∷◌, ◌++◌, length, drop, get_or, Option, arith}
 use Rattle.std.proofs.lemmas.Bool.Decides.{nat_tests}
-use Rattle.std.proofs.Math.ListN.{drop_of_length-le}
 use Rattle.std.specs.List.{flat_map}
 use Rattle.ws_base.specs.declared.refusal.Refusal.{Refusal}
 use Rattle.ws_base.specs.declared.refusal.RefusalKind.TheVariants as kind
 use Rattle.ws_types.specs.Kinds.{when, least_from}
-use Rattle.ws_types.proofs.Appended.{front, least-append, least-none}
+use Rattle.ws_types.proofs.Appended.{next_of, done_of, least-append, least-none}
 use Rattle.ws_counts.specs.declared.tally.Piece.{Piece}
 use Rattle.ws_counts.specs.declared.tally.Sum.{Sum}
 use Rattle.ws_counts.specs.declared.tally.Total.{Total}
@@ -14,27 +13,24 @@ use Rattle.ws_counts.specs.Counts.{parts_of, phases_of, temporaries_of}
 use Rattle.ws_counts.specs.Limits.{all_phases, all_temporaries, parts_faults, steps_faults, statement_faults}
 use Rattle.ws_counts.specs.Tallies.{most, total_of, no_sum, summed, all_summed}
 
+pub summed-none : (s : Sum) → all_summed s [] ≡ s
+unfolding all_summed
+summed-none s = refl
+
 pub summed-append : (s : Sum) (xs ys : List (List (List Piece))) → all_summed s (xs ++ ys) ≡ all_summed (all_summed s xs) ys
 unfolding all_summed
 summed-append s [] ys = refl
 summed-append s (x ∷ xs) ys = summed-append (summed s x) xs ys
-
-pub summed-none : (s : Sum) → all_summed s [] ≡ s
-unfolding all_summed
-summed-none s = refl
 
 pub ruleset summed_rules = (summed-append, summed-none, least-append, least-none)
 
 -- ---- a loop that adds the steps of each item
 
 pub next_sum : {X : Type 0} (f : X → List (List (List Piece))) (xs : List X) (i : ℕ) (x : X) (s now : Sum) → i < length xs → x ≡ get_or xs i x → now ≡ all_summed s (f x) → all_summed s (flat_map f (drop i xs)) ≡ all_summed now (flat_map f (drop (i + 1) xs))
-next_sum f xs i x s now within is step =
-    ap (λ l. all_summed s (flat_map f l)) (front xs i x within is)
-    ∙ summed-append s (f x) (flat_map f (drop (i + 1) xs))
-    ∙ ap (λ g. all_summed g (flat_map f (drop (i + 1) xs))) (sym step)
+next_sum = next_of all_summed summed-append
 
 pub no_sum_left : {X : Type 0} (f : X → List (List (List Piece))) (xs : List X) (i : ℕ) (s : Sum) → length xs ≤ i → all_summed s (flat_map f (drop i xs)) ≡ s
-no_sum_left f xs i s h = ap (λ l. all_summed s (flat_map f l)) (drop_of_length-le xs h) ∙ summed-none s
+no_sum_left = done_of all_summed summed-none
 
 -- ---- the numbers of the sum
 

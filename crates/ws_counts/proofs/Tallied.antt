@@ -1,8 +1,7 @@
 -- A list counted bit by bit.
-use Rattle.std.proofs.Common.{◌≡◌, refl, ap, sym, ◌∙◌, ℕ, ◌+◌, ◌<◌, ◌≤◌, List, [], ◌∷◌, ◌++◌, length, drop, get_or}
-use Rattle.std.proofs.Math.ListN.{drop_of_length-le}
+use Rattle.std.proofs.Common.{◌≡◌, refl, ℕ, ◌+◌, ◌<◌, ◌≤◌, List, [], ◌∷◌, ◌++◌, length, drop, get_or}
 use Rattle.std.specs.List.{flat_map}
-use Rattle.ws_types.proofs.Appended.{front}
+use Rattle.ws_types.proofs.Appended.{next_of, done_of}
 use Rattle.ws_counts.specs.declared.tally.Piece.{Piece}
 use Rattle.ws_counts.specs.declared.tally.Tally.{Tally}
 use Rattle.ws_counts.specs.Tallies.{tallied, counted}
@@ -25,10 +24,7 @@ pub ruleset tallied_rules = (tallied-append, tallied-none, tallied-first)
 -- ---- a loop that counts the pieces of each item
 
 pub next : {X : Type 0} (f : X → List Piece) (xs : List X) (i : ℕ) (x : X) (k now : Tally) → i < length xs → x ≡ get_or xs i x → now ≡ tallied k (f x) → tallied k (flat_map f (drop i xs)) ≡ tallied now (flat_map f (drop (i + 1) xs))
-next f xs i x k now within is step =
-    ap (λ l. tallied k (flat_map f l)) (front xs i x within is)
-    ∙ tallied-append k (f x) (flat_map f (drop (i + 1) xs))
-    ∙ ap (λ g. tallied g (flat_map f (drop (i + 1) xs))) (sym step)
+next = next_of tallied tallied-append
 
 pub done : {X : Type 0} (f : X → List Piece) (xs : List X) (i : ℕ) (k : Tally) → length xs ≤ i → tallied k (flat_map f (drop i xs)) ≡ k
-done f xs i k h = ap (λ l. tallied k (flat_map f l)) (drop_of_length-le xs h) ∙ tallied-none k
+done = done_of tallied tallied-none

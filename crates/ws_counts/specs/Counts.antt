@@ -38,25 +38,38 @@ statement_steps t line body = map (step_pieces t) (where_steps line body)
 
 -- ---- counts
 
+-- what a piece counts as, which stands here once for each
+pub record Counted : Type 0 where
+  pub part : Bool
+  pub reduction : Bool
+  pub mask : Bool
+  pub whole : Bool
+  pub whole_in_mask : Bool
+
+abbrev pub uncounted : Counted
+uncounted = record { part = false; reduction = false; mask = false; whole = false; whole_in_mask = false }
+
+abbrev pub counted_as : Piece → Counted
+counted_as piece.Part = record uncounted { part = true }
+counted_as piece.Reduction = record uncounted { reduction = true }
+counted_as (piece.Whole mask) = record uncounted { whole = true; whole_in_mask = mask }
+counted_as piece.Mask = record uncounted { mask = true }
+counted_as piece.Assigned = uncounted
+
 abbrev pub is_part : Piece → Bool
-is_part piece.Part = true
-is_part _ = false
+is_part = λ p. (counted_as p).part
 
 abbrev pub is_reduction : Piece → Bool
-is_reduction piece.Reduction = true
-is_reduction _ = false
+is_reduction = λ p. (counted_as p).reduction
 
 abbrev pub is_mask : Piece → Bool
-is_mask piece.Mask = true
-is_mask _ = false
+is_mask = λ p. (counted_as p).mask
 
 abbrev pub is_whole : Piece → Bool
-is_whole (piece.Whole mask) = true
-is_whole _ = false
+is_whole = λ p. (counted_as p).whole
 
 abbrev pub is_whole_in_mask : Piece → Bool
-is_whole_in_mask (piece.Whole mask) = mask
-is_whole_in_mask _ = false
+is_whole_in_mask = λ p. (counted_as p).whole_in_mask
 
 abbrev pub how_many : (Piece → Bool) → List Piece → ℕ
 how_many test [] = 0

@@ -101,7 +101,12 @@ abbrev mutual
   body_steps t line (Masked' mask h block g rest) = statement_steps t line (Masked' mask h block g rest) ∷ []
   body_steps t line (Forall' is mask h block) = statement_steps t line (Forall' is mask h block) ∷ []
   body_steps t line (Loop' x l u s _ block) = block_steps t block
-  body_steps t line _ = []
+  body_steps t line (Allocate ps) = []
+  body_steps t line (Deallocate xs) = []
+  body_steps t line (Read es) = []
+  body_steps t line (Shared' _ block) = []
+  body_steps t line Unsupported = []
+  body_steps t line TooDeep = []
 
 -- ---- the same over lists
 

@@ -3,12 +3,12 @@ use Rattle.std.specs.Prelude.{Bool, true, false, not, ◌&&◌, nat_eq, if◌the
 use Rattle.std.specs.List.{flat_map}
 use Rattle.ws_base.specs.declared.op.CallWord.{CallWord}
 use Rattle.ws_tree.specs.declared.expr.Expr.{Expr}
-use Rattle.ws_tree.specs.declared.expr.Expr.TheVariants.{Part', Call', Vector'}
+use Rattle.ws_tree.specs.declared.expr.Expr.TheVariants.{Number, TooWide, TooDeep, Truth, Named, Part', Call', Vector'}
 use Rattle.ws_tree.specs.declared.expr.Sub.{Sub}
 use Rattle.ws_tree.specs.declared.expr.Sub.TheVariants as sub
 use Rattle.ws_tree.specs.declared.stmt.Index.{Index}
 use Rattle.ws_tree.specs.declared.stmt.Body.{Body}
-use Rattle.ws_tree.specs.declared.stmt.Body.TheVariants.{Assign, Masked', Forall'}
+use Rattle.ws_tree.specs.declared.stmt.Body.TheVariants.{Assign, Masked', Forall', Loop', Allocate, Deallocate, Read, Shared', Unsupported, TooDeep as TooDeep'}
 use Rattle.ws_tree.specs.declared.stmt.Else.{Else, Else'}
 use Rattle.ws_tree.specs.Trees.{Exprs, end_exprs, more_exprs, Subs, end_subs, more_subs, Given, absent, given, Stmts, end_stmts, more_stmts, Elses, end_elses, more_elses, paren, unary, binary}
 use Rattle.ws_types.specs.declared.types.Typed.{Typed}
@@ -46,7 +46,11 @@ abbrev mutual
   pieces t inside mask (paren e) = pieces t inside mask e
   pieces t inside mask (unary op e) = Part ∷ pieces t inside mask e
   pieces t inside mask (binary op a b) = Part ∷ (pieces t inside mask a ++ pieces t inside mask b)
-  pieces t inside mask _ = []
+  pieces t inside mask (Number n) = []
+  pieces t inside mask TooWide = []
+  pieces t inside mask TooDeep = []
+  pieces t inside mask (Truth b) = []
+  pieces t inside mask (Named x) = []
 
   pub all_pieces : {m : _} → List Row → Bool → Bool → Exprs m → List Piece
   all_pieces t inside mask end_exprs = []
@@ -102,7 +106,14 @@ abbrev mutual
   pub where_pieces : List Row → Bool → Body → List Piece
   where_pieces t inside (Assign left right) = assigned_pieces t inside left right
   where_pieces t inside (Masked' test _ block _ rest) = mask_pieces t inside test ++ block_pieces t inside block ++ elses_pieces t inside rest
-  where_pieces t inside _ = []
+  where_pieces t inside (Forall' is mask _ block) = []
+  where_pieces t inside (Loop' x l u s _ block) = []
+  where_pieces t inside (Allocate ps) = []
+  where_pieces t inside (Deallocate xs) = []
+  where_pieces t inside (Read es) = []
+  where_pieces t inside (Shared' _ block) = []
+  where_pieces t inside Unsupported = []
+  where_pieces t inside TooDeep' = []
 
   pub block_pieces : {m : _} → List Row → Bool → Stmts m → List Piece
   block_pieces t inside end_stmts = []
