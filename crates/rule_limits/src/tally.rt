@@ -75,21 +75,19 @@ fn add_mask(tally: &mut Tally)
     tally.masked = true;
 }
 
-fn add_assignment(tally: &mut Tally)
-    ensures { tally.new ≡ tallies.with_assignment (tallies.after_assignment tally.old) }
-{
-    leave_assignment(tally);
-    tally.begun = true;
-    tally.assigned = true;
-    tally.masked = false;
-}
-
 fn add_header(tally: &mut Tally)
     ensures { tally.new ≡ tallies.with_header (tallies.after_assignment tally.old) }
 {
     leave_assignment(tally);
     tally.begun = true;
     tally.masked = false;
+}
+
+fn add_assignment(tally: &mut Tally)
+    ensures { tally.new ≡ tallies.with_assignment (tallies.after_assignment tally.old) }
+{
+    add_header(tally);
+    tally.assigned = true;
 }
 
 fn add_reduction(tally: &mut Tally)
