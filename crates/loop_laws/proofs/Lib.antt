@@ -6,4 +6,5 @@ pub mod Keyed
 pub mod Direct
 pub mod Sets
 pub mod Words
+pub mod Placed
 mod Rows

@@ -1,5 +1,5 @@
 -- What the phases of a step leave.
-use Rattle.std.specs.Prelude.{◌≡◌, ◌⊎◌, ℕ, ◌<◌, ◌≤◌, ℤ, List, [], ◌∷◌, length, Some, Result, Ok, Err, slice_index, ◌++◌}
+use Rattle.std.specs.Prelude.{◌≡◌, ◌⊎◌, ℕ, ◌<◌, ◌≤◌, ℤ, List, [], ◌∷◌, length, Some, Result, Ok, Err, slice_index, ◌++◌, slice_get}
 use Rattle.ws_base.specs.declared.fault.FaultName.{FaultName}
 use Rattle.phase_ops.specs.declared.effect.Effect.TheVariants.{Store}
 use Rattle.phase_ops.specs.declared.phase.Source.{Source}
@@ -8,7 +8,7 @@ use Rattle.phase_ops.specs.declared.phase.Label.{Label}
 use Rattle.phase_ops.specs.declared.phase.Phase.TheVariants.{Loop}
 use Rattle.phase_ops.specs.Phases.{Cells, source_cells, each_from, phase_effects, lay, after_phase, key}
 use Rattle.phase_ops.specs.Free.{In, stored, lessened, Free, IsChunk}
-use Rattle.loop_laws.specs.Moves.{Row, Move, Failure, whole, moved}
+use Rattle.loop_laws.specs.Moves.{Row, Move, Failure, whole, moved, targets_of, values_of}
 use Rattle.loop_laws.specs.Loops.{Plan, ended, rows_of, does, looks_at, Follows, Fitting, Alone, Keyed, Touched, Replaced}
 use Rattle.ws_base.specs.Outcomes.{◌>>=◌}
 
@@ -52,6 +52,14 @@ told (Err f) = Err (f.iteration, f.name)
 -- Whole maps of two lists of moves are those of the first, and then those of the second.
 abbrev pub JoinLaw : Type 0
 JoinLaw = (xs ys : List (Move ℤ)) (rs : List (Row ℤ)) → told (whole (xs ++ ys) rs) ≡ (told (whole xs rs) >>= (λ ts. told (whole ys ts)))
+
+-- Targets and values of rows stand in one order: the k-th of both are those of one row, and each row's stand somewhere together.
+abbrev pub RowsLaw : Type 0
+RowsLaw =
+    (target : ℕ → List ℤ → ℕ) (value : ℕ → List ℤ → ℤ) (ts : List (Row ℤ))
+    → (length (values_of value ts) ≡ length (targets_of target ts))
+    × ((k p : ℕ) (z : ℤ) → slice_get (targets_of target ts) k ≡ Some p → slice_get (values_of value ts) k ≡ Some z → (i : ℕ) × (s : List ℤ) × In (i, s) ts × (target i s ≡ p) × (value i s ≡ z))
+    × ((i : ℕ) (s : List ℤ) → In (i, s) ts → (k : ℕ) × (slice_get (targets_of target ts) k ≡ Some (target i s)) × (slice_get (values_of value ts) k ≡ Some (value i s)))
 
 -- ---- any loop
 

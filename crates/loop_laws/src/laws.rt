@@ -1,6 +1,6 @@
 //! Laws of loops, each the contract of a function that does nothing.
 
-ghost use Rattle.loop_laws.specs.Laws.{BridgeLaw, JoinLaw, ChunkLaw, FreeLaw, LoopKeyLaw, CellLaw, DirectLaw};
+ghost use Rattle.loop_laws.specs.Laws.{BridgeLaw, JoinLaw, RowsLaw, ChunkLaw, FreeLaw, LoopKeyLaw, CellLaw, DirectLaw};
 ghost use Rattle.loop_laws.specs.Sets.{SetLaw};
 
 /// Whole maps, one move after another over all places, fail at the first move that fails anywhere, and there at the least place. Else
@@ -12,6 +12,11 @@ pub fn bridge_law()
 /// Whole maps of two lists of moves are those of the first, and then those of the second.
 pub fn join_law()
     ensures { JoinLaw }
+{}
+
+/// Targets and values of rows stand in one order: the k-th of both are those of one row, and each row's stand somewhere together.
+pub fn rows_law()
+    ensures { RowsLaw }
 {}
 
 /// Whatever the chunk, a loop does what its iterations do in order.

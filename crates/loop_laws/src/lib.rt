@@ -5,5 +5,6 @@
 mod laws;
 
 pub use laws::{
-    bridge_law, cell_law, chunk_law, direct_law, free_law, join_law, loop_key_law, set_law,
+    bridge_law, cell_law, chunk_law, direct_law, free_law, join_law, loop_key_law, rows_law,
+    set_law,
 };
