@@ -1,5 +1,5 @@
 -- A saved mask under a control.
-use Rattle.std.proofs.Common.{◌≡◌, ◌⊎◌, inl, inr, ℕ, zero, suc, ◌+◌, ◌<◌, Bool, true, false, List, [], ◌∷◌, ◌++◌, length, length-set, set, slice_index, get_or-set_same, sym, refl, ap, ◌∙◌, subst, arith, Some, None, Result, Ok, Err, ℤ, pos, negsuc}
+use Rattle.std.proofs.Common.{◌≡◌, ◌⊎◌, inl, inr, ℕ, zero, suc, ◌+◌, ◌<◌, Bool, true, false, List, [], ◌∷◌, ◌++◌, length, length-set, set, slice_index, get_or-set_same, sym, refl, ap, ◌∙◌, subst, arith, Some, None, Result, Ok, Err, ℤ, negsuc}
 use Rattle.std.specs.Prelude.{◌↔◌}
 use Rattle.ws_base.specs.Numbers.{truth, is_true, int_eq}
 use Rattle.phase_ops.specs.declared.effect.Effect.{Effect}
@@ -11,14 +11,14 @@ use Rattle.phase_ops.specs.declared.phase.Phase.TheVariants.{Loop}
 use Rattle.phase_ops.specs.Phases.{Cells, lay, cell_value, word, after_phase, key_of}
 use Rattle.phase_ops.specs.Free.{In, stored, lessened, Free, IsChunk}
 use Rattle.loop_laws.specs.Moves.{Row, Failure, Ended}
-use Rattle.loop_laws.specs.Loops.{Plan, ended, planned, rows_of, does, Alone, Inside}
+use Rattle.loop_laws.specs.Loops.{Plan, ended, planned, rows_of, does, Alone}
 use Rattle.loop_laws.specs.Laws.{Bridged}
 use Rattle.mask_laws.specs.Controls.{ControlSaving, ControlSaved, SavesControl}
 use Rattle.loop_laws.proofs.Units.{free_loop}
 use Rattle.loop_laws.proofs.Touched.{same_length, by_one, by_none, inside_at}
 use Rattle.loop_laws.proofs.Keyed.{in_rows}
 use Rattle.loop_laws.proofs.Direct.{left, is_left}
-use Rattle.loop_laws.proofs.Words.{read_back, pos_fits, negsuc_fits}
+use Rattle.loop_laws.proofs.Words.{read_back, negsuc_fits}
 use Rattle.mask_laws.proofs.Masks.{truth_back}
 
 module _ (V : Type 0) (plan : Plan V) (test : List V → Bool) (t : ℕ) (count : Source) (acts : List Act) (m : Cells) (n : ℕ) (w : ControlSaving V plan test t count acts m n) where

@@ -13,14 +13,15 @@ use Rattle.loop_laws.specs.Moves.{Move, Ended, moved}
 use Rattle.loop_laws.specs.Loops.{does, looks_at, planned}
 use Rattle.segment_laws.specs.Segments.{Ran, Through, Out, Broke, ran, seen, seen_next, AllStoreNothing, onward}
 use Rattle.segment_laws.specs.Compiled.{Compiled, all_ops, RanSo}
-use Rattle.segment_laws.specs.Acts.{from, negative_ops}
+use Rattle.segment_laws.specs.Acts.{from, negative_ops, act}
 use Rattle.mask_laws.specs.Layers.{Layer, layered, ops_of, layer_of, spot_at, no_rest}
 use Rattle.mask_laws.specs.Idles.{idle_end, idle_store, idle_layered}
 use Rattle.segment_laws.proofs.Acts.{at_is, at_first}
 use Rattle.segment_laws.proofs.Segments.{segment}
 use Rattle.segment_laws.proofs.Compiled.{runs}
 use Rattle.segment_laws.proofs.Idle.{idles, with_idle, first_act}
-use Rattle.mask_laws.proofs.Layers.{end_from, goes, looked}
+use Rattle.mask_laws.proofs.Layers.{end_from, goes}
+use Rattle.mask_laws.proofs.Looks.{later_loads}
 
 module _ (layers : List Layer) (line a : ℕ) (rest tail : List Micro) (m : Cells) (i : ℕ) (low : i < 65536) (quiet : AllStoreNothing (ops_of layers)) (quiet_rest : AllStoreNothing rest) where
   abbrev x : Cells
@@ -53,10 +54,8 @@ module _ (layers : List Layer) (line a : ℕ) (rest tail : List Micro) (m : Cell
       ∙ ap (λ (r : Ran). loads (onward (at_first i) (op.Store (from a 0) 2 ∷ []) m next r)) (idles i m low)
       ∙ (λ j. loads (acts_events i 1 (layered layers line (rest ++ tail)) (over (Store (at_is a i j) (word (negsuc i))) m)))
 
-  pub idle_looks : (c : ℕ) → In c (looks_at (idle_layered line a layers (rest ++ tail)) m i) → In c (loads (ops_events (spot_at (suc (length layers)) i) (ops_of layers ++ (rest ++ tail)) x [] no_rest))
-  idle_looks c h =
-      subst (λ (k : ℕ). In c (loads (ops_events (spot_at k i) (ops_of layers ++ (rest ++ tail)) x [] no_rest))) (let e : 1 + length layers ≡ suc (length layers) = omega arith in e)
-      (looked i x line rest tail quiet_rest 1 c [] layers tt quiet (subst (In c) all_loads h))
+  pub idle_looks : (c : ℕ) → In c (looks_at (idle_layered line a layers (rest ++ tail)) m i) → In c (looks_at (act line (ops_of layers ++ (rest ++ tail))) x i)
+  idle_looks c h = later_loads i x line (rest ++ tail) 1 c layers quiet (subst (In c) all_loads h)
 
 -- ---- a loop that follows its plan
 

@@ -9,34 +9,20 @@ use Rattle.phase_ops.specs.declared.effect.Turn.{Turn}
 use Rattle.phase_ops.specs.declared.effect.Turn.TheVariants.{Next, Shut, Fails, Does}
 use Rattle.phase_ops.specs.declared.phase.Micro.{Micro}
 use Rattle.phase_ops.specs.declared.phase.Act.{Act}
-use Rattle.phase_ops.specs.Phases.{Cells, looks, divisors, turn, key_of, Spot, Event, ops_events, acts_events, spot, makes, loads, divides}
-use Rattle.phase_ops.specs.declared.phase.Source.TheVariants.{Fixed}
+use Rattle.phase_ops.specs.Phases.{Cells, turn, key_of, Event, ops_events, acts_events, makes}
 use Rattle.phase_ops.specs.Faults.{lines}
 use Rattle.phase_ops.specs.Free.{In, NameEarlier}
-use Rattle.phase_ops.proofs.Members.{in_left, in_right, in_either}
-use Rattle.phase_ops.proofs.Strands.{loads_append}
-use Rattle.phase_ops.proofs.Frame.{loads_plain}
 use Rattle.loop_laws.specs.Moves.{Move, Ended, moved}
-use Rattle.loop_laws.specs.Loops.{does, looks_at, planned, Fitting}
-use Rattle.segment_laws.proofs.Early.{early, is_early, AllNoDigit, divides_rest}
-use Rattle.segment_laws.specs.Segments.{Ran, Through, Out, Broke, stepped, ran, seen, seen_next, AllStoreNothing, onward}
+use Rattle.loop_laws.specs.Loops.{does, planned, Fitting}
+use Rattle.segment_laws.specs.Segments.{Ran, Through, Out, Broke, stepped, ran, AllStoreNothing, onward}
 use Rattle.segment_laws.specs.Compiled.{Compiled, all_ops, RanSo}
-use Rattle.segment_laws.proofs.Segments.{segment, ran_on, ran_join}
+use Rattle.segment_laws.proofs.Segments.{ran_on, ran_join}
 use Rattle.segment_laws.proofs.Acts.{onward_makes}
 use Rattle.segment_laws.proofs.Compiled.{runs}
 use Rattle.mask_laws.specs.Layers.{Layer, layered_from, layered, ops_of, layer_from, layer_of, line_from, spot_at, no_rest, layered_end}
-
-pub quiet_join : (xs ys : List Micro) → AllStoreNothing xs → AllStoreNothing ys → AllStoreNothing (xs ++ ys)
-quiet_join [] ys a b = b
-quiet_join (x ∷ xs) ys a b = (a.0, quiet_join xs ys a.1 b)
-
-quiet_left : (xs ys : List Micro) → AllStoreNothing (xs ++ ys) → AllStoreNothing xs
-quiet_left [] ys h = tt
-quiet_left (x ∷ xs) ys h = (h.0, quiet_left xs ys h.1)
-
-quiet_right : (xs ys : List Micro) → AllStoreNothing (xs ++ ys) → AllStoreNothing ys
-quiet_right [] ys h = h
-quiet_right (x ∷ xs) ys h = quiet_right xs ys h.1
+use Rattle.segment_laws.specs.Acts.{act}
+use Rattle.phase_ops.specs.declared.phase.Source.{Source}
+use Rattle.mask_laws.proofs.Looks.{quiet_join, quiet_left, quiet_right, layered_loads, layered_divides}
 
 -- ---- numbers of ops
 
@@ -133,63 +119,6 @@ module _ (i : ℕ) (m : Cells) where
         by rec (Broke o f) h n = ap (λ (a : ℕ). let es : List Effect = Fault (key_of a o (suc i) f) ∷ [] in es)
             ((let s : k ≡ k + 0 = omega arith in s) ∙ ap (λ (b : Bool). k + (if b then 0 else suc (layer_from (length regs + length x.ops) xs o))) (let l = n.1 in let t : true ≡ nat_lt o (length regs + length x.ops) = grind (arith, nat_tests) in t))
 
-    -- ---- what they load
-
-    seen_prefix : (c : ℕ) (regs : List ℤ) (xs ys : List Micro) → In c (loads (seen i m regs xs)) → In c (loads (seen i m regs (xs ++ ys)))
-    seen_prefix c regs [] ys h = elim h [ ]
-    seen_prefix c regs (op ∷ xs) ys h =
-        subst (In c) (sym (loads_plain (looks m regs op) (divisors m op) (seen_next (λ z. seen i m (regs ++ z ∷ []) (xs ++ ys)) (turn i m regs op))))
-        (by (λ z g. seen_prefix c (regs ++ z ∷ []) xs ys g) (turn i m regs op) (in_either c (looks m regs op) (loads (seen_next (λ z. seen i m (regs ++ z ∷ []) xs) (turn i m regs op))) (subst (In c) (loads_plain (looks m regs op) (divisors m op) (seen_next (λ z. seen i m (regs ++ z ∷ []) xs) (turn i m regs op))) h)))
-      where
-        further : ((z : ℤ) → In c (loads (seen i m (regs ++ z ∷ []) xs)) → In c (loads (seen i m (regs ++ z ∷ []) (xs ++ ys))))
-            → (t : Turn) → In c (loads (seen_next (λ z. seen i m (regs ++ z ∷ []) xs) t)) → In c (loads (seen_next (λ z. seen i m (regs ++ z ∷ []) (xs ++ ys)) t))
-        further rec (Next z) g = rec z g
-        further rec Shut g = g
-        further rec (Fails n) g = g
-        further rec (Does e) g = rec (pos 0) g
-
-        by : ((z : ℤ) → In c (loads (seen i m (regs ++ z ∷ []) xs)) → In c (loads (seen i m (regs ++ z ∷ []) (xs ++ ys))))
-            → (t : Turn) → In c (looks m regs op) ⊎ In c (loads (seen_next (λ z. seen i m (regs ++ z ∷ []) xs) t)) → In c (looks m regs op ++ loads (seen_next (λ z. seen i m (regs ++ z ∷ []) (xs ++ ys)) t))
-        by rec t (inl g) = in_left c (looks m regs op) (loads (seen_next (λ z. seen i m (regs ++ z ∷ []) (xs ++ ys)) t)) g
-        by rec t (inr g) = in_right c (looks m regs op) (loads (seen_next (λ z. seen i m (regs ++ z ∷ []) (xs ++ ys)) t)) (further rec t g)
-
-    -- the ops of an act that stores nothing, in the longer act
-    prefix_loads : (s : Spot) (c : ℕ) (xs ys : List Micro) → AllStoreNothing xs → In c (loads (seen i m [] xs)) → s.iteration ≡ i → In c (loads (ops_events (spot_at s.act i) (xs ++ ys) m [] no_rest))
-    prefix_loads s c xs ys q h e =
-        subst (In c) (sym (ap loads (segment (spot_at s.act i) xs ys m [] no_rest q) ∙ loads_append (seen i m [] xs) (onward (spot_at s.act i) ys m no_rest (ran i m [] xs))))
-        (in_left c (loads (seen i m [] xs)) (loads (onward (spot_at s.act i) ys m no_rest (ran i m [] xs))) h)
-
-    pub looked : (k c : ℕ) (done : List Micro) (xs : List Layer) → AllStoreNothing done → AllStoreNothing (ops_of xs) → In c (loads (acts_events i k (layered_from done xs line (rest ++ tail)) m))
-        → In c (loads (ops_events (spot_at (k + length xs) i) (done ++ (ops_of xs ++ (rest ++ tail))) m [] no_rest))
-    looked k c done [] q q' h = subst (λ (a : ℕ). In c (loads (ops_events (spot_at a i) (done ++ (rest ++ tail)) m [] no_rest))) (let e : k ≡ k + 0 = omega arith in e) h
-    looked k c done (x ∷ xs) q q' h =
-        by (λ g. looked (suc k) c (done ++ x.ops) xs (quiet_join done x.ops q (quiet_left x.ops (ops_of xs) q')) (quiet_right x.ops (ops_of xs) q') g) (ran i m [] (done ++ x.ops))
-        (in_either c (loads (seen i m [] (done ++ x.ops))) (loads (onward (spot_at k i) [] m (next_of k (done ++ x.ops) xs) (ran i m [] (done ++ x.ops)))) (subst (In c) all_loads h))
-      where
-        qd : AllStoreNothing (done ++ x.ops)
-        qd = quiet_join done x.ops q (quiet_left x.ops (ops_of xs) q')
-
-        all_loads : loads (acts_events i k (layered_from done (x ∷ xs) line (rest ++ tail)) m) ≡ loads (seen i m [] (done ++ x.ops)) ++ loads (onward (spot_at k i) [] m (next_of k (done ++ x.ops) xs) (ran i m [] (done ++ x.ops)))
-        all_loads = ap (λ (ops : List Micro). loads (ops_events (spot_at k i) ops m [] (next_of k (done ++ x.ops) xs))) (sym (append-nil (done ++ x.ops)))
-            ∙ ap loads (segment (spot_at k i) (done ++ x.ops) [] m [] (next_of k (done ++ x.ops) xs) qd)
-            ∙ loads_append (seen i m [] (done ++ x.ops)) (onward (spot_at k i) [] m (next_of k (done ++ x.ops) xs) (ran i m [] (done ++ x.ops)))
-
-        same_ops : (done ++ x.ops) ++ (ops_of xs ++ (rest ++ tail)) ≡ done ++ ((x.ops ++ ops_of xs) ++ (rest ++ tail))
-        same_ops = append_assoc done x.ops (ops_of xs ++ (rest ++ tail)) ∙ ap (λ (l : List Micro). done ++ l) (sym (append_assoc x.ops (ops_of xs) (rest ++ tail)))
-
-        as_one : (a : ℕ) → In c (loads (ops_events (spot_at a i) ((done ++ x.ops) ++ (ops_of xs ++ (rest ++ tail))) m [] no_rest)) → In c (loads (ops_events (spot_at a i) (done ++ ((x.ops ++ ops_of xs) ++ (rest ++ tail))) m [] no_rest))
-        as_one a g = subst (λ (ops : List Micro). In c (loads (ops_events (spot_at a i) ops m [] no_rest))) same_ops g
-
-        later : In c (loads (ops_events (spot_at (suc k + length xs) i) ((done ++ x.ops) ++ (ops_of xs ++ (rest ++ tail))) m [] no_rest)) → In c (loads (ops_events (spot_at (k + suc (length xs)) i) (done ++ ((x.ops ++ ops_of xs) ++ (rest ++ tail))) m [] no_rest))
-        later h = as_one (k + suc (length xs)) (subst (λ (a : ℕ). In c (loads (ops_events (spot_at a i) ((done ++ x.ops) ++ (ops_of xs ++ (rest ++ tail))) m [] no_rest))) (let e : suc k + length xs ≡ k + suc (length xs) = omega arith in e) h)
-
-        by : (In c (loads (acts_events i (suc k) (layered_from (done ++ x.ops) xs line (rest ++ tail)) m)) → In c (loads (ops_events (spot_at (suc k + length xs) i) ((done ++ x.ops) ++ (ops_of xs ++ (rest ++ tail))) m [] no_rest)))
-            → (r : Ran) → In c (loads (seen i m [] (done ++ x.ops))) ⊎ In c (loads (onward (spot_at k i) [] m (next_of k (done ++ x.ops) xs) r)) → In c (loads (ops_events (spot_at (k + suc (length xs)) i) (done ++ ((x.ops ++ ops_of xs) ++ (rest ++ tail))) m [] no_rest))
-        by rec r (inl g) = as_one (k + suc (length xs)) (prefix_loads (spot_at (k + suc (length xs)) i) c (done ++ x.ops) (ops_of xs ++ (rest ++ tail)) qd g refl)
-        by rec (Through regs) (inr g) = later (rec g)
-        by rec Out (inr g) = later (rec g)
-        by rec (Broke o n) (inr g) = elim g [ ]
-
     -- ---- from the first act on
 
     pub layered_does : (layers : List Layer) → AllStoreNothing (ops_of layers) → does (layered layers line (rest ++ tail)) m i ≡ layered_end layers tail m i (ran i m [] (ops_of layers ++ rest))
@@ -199,9 +128,6 @@ module _ (i : ℕ) (m : Cells) where
         by (Through regs) = ap (λ (a : ℕ). makes (ops_events (spot_at a i) tail m regs no_rest)) (let e : 0 + length layers ≡ length layers = omega arith in e)
         by Out = refl
         by (Broke o n) = ap (λ (a : ℕ). let es : List Effect = Fault (key_of a o (suc i) n) ∷ [] in es) (let e : 0 + layer_of layers o ≡ layer_of layers o = omega arith in e)
-
-    pub layered_looks : (layers : List Layer) → AllStoreNothing (ops_of layers) → (c : ℕ) → In c (looks_at (layered layers line (rest ++ tail)) m i) → In c (loads (ops_events (spot_at (length layers) i) (ops_of layers ++ (rest ++ tail)) m [] no_rest))
-    layered_looks layers q c h = subst (λ (a : ℕ). In c (loads (ops_events (spot_at a i) (ops_of layers ++ (rest ++ tail)) m [] no_rest))) (let e : 0 + length layers ≡ length layers = omega arith in e) (looked 0 c [] layers tt q h)
 
 -- ---- a loop that follows its plan
 
@@ -252,31 +178,27 @@ earlier_prefix : (k : ℕ) (xs ys : List Micro) → NameEarlier k (xs ++ ys) →
 earlier_prefix k [] ys h = tt
 earlier_prefix k (x ∷ xs) ys h = (h.0, earlier_prefix (suc k) xs ys h.1)
 
-digits_left : (xs ys : List Micro) → AllNoDigit (xs ++ ys) → AllNoDigit xs
-digits_left [] ys h = tt
-digits_left (x ∷ xs) ys h = (h.0, digits_left xs ys h.1)
-
-acts_divide : (i k : ℕ) (acts : List Act) (m : Cells) → ((a : Act) → In a acts → AllNoDigit a.ops) → divides (acts_events i k acts m) ≡ []
-acts_divide i k [] m h = refl
-acts_divide i k (a ∷ more) m h = divides_rest (spot k a i) a.ops m [] (λ y regs. acts_events i (suc k) more y) (λ y regs. acts_divide i (suc k) more y (λ b g. h b (inr g))) (h a (inl refl))
+abbrev one_act_of : List Layer → ℕ → List Micro → Act
+one_act_of layers line last = record { line = line; ops = ops_of layers ++ last; whole = false }
 
 acts_count : (done : List Micro) (xs : List Layer) (line : ℕ) (last : List Micro) → length (layered_from done xs line last) ≡ suc (length xs)
 acts_count done [] line last = refl
 acts_count done (x ∷ xs) line last = ap suc (acts_count (done ++ x.ops) xs line last)
 
-pub layered_fits : (layers : List Layer) (line n : ℕ) (last : List Micro) (m : Cells) → n ≤ 65536 → length layers < 1000000 → length (ops_of layers ++ last) ≤ 1048576 → early 0 (ops_of layers ++ last) ≡ true → AllNoDigit (ops_of layers ++ last)
-    → ((i c : ℕ) → i < n → In c (looks_at (layered layers line last) m i) → c < length m) → Fitting (Fixed (pos n)) (layered layers line last) m n
-layered_fits layers line n last m few some short e plainly looked = record {
-  count_is = refl;
-  small = few;
-  count_there = λ c h. elim h [ ];
-  few_acts = let c = acts_count [] layers line last in omega (arith, c, some);
-  few_ops = λ a h. let p = prefix_of [] layers line last a h in (
-    (let z = ap length p.2 in let y = length-append a.ops p.1 in omega (arith, z, y, short)),
-    earlier_prefix 0 a.ops p.1 (subst (NameEarlier 0) (sym p.2) (is_early 0 (ops_of layers ++ last) e)),
+-- where one act with all ops fits
+pub layered_fits : (layers : List Layer) (line : ℕ) (last : List Micro) (count : Source) (m : Cells) (n : ℕ) → AllStoreNothing (ops_of layers) → length layers < 1048575
+    → Fitting count (act line (ops_of layers ++ last)) m n → Fitting count (layered layers line last) m n
+layered_fits layers line last count m n q few f = record {
+  count_is = f.count_is;
+  small = f.small;
+  count_there = f.count_there;
+  few_acts = let c = acts_count [] layers line last in omega (arith, c, few);
+  few_ops = λ a h. let p = prefix_of [] layers line last a h in let one = f.few_ops (one_act_of layers line last) (inl refl) in (
+    (let z : length (a.ops ++ p.1) ≡ length (ops_of layers ++ last) = ap length p.2 in let y = length-append a.ops p.1 in let short : length (ops_of layers ++ last) ≤ 1048576 = one.0 in omega (arith, z, y, short)),
+    earlier_prefix 0 a.ops p.1 (subst (NameEarlier 0) (sym p.2) one.1),
   );
-  positive = λ i z l h. absurd (subst (In z) (acts_divide i 0 (layered layers line last) m (λ a g. let p = prefix_of [] layers line last a g in digits_left a.ops p.1 (subst AllNoDigit (sym p.2) plainly))) h);
-  loaded = looked;
+  positive = λ i z l h. f.positive i z l (layered_divides i m line last layers q z h);
+  loaded = λ i c l h. f.loaded i c l (layered_loads i m line last layers q c h);
 }
 
 -- ---- lines

@@ -1,3 +1,4 @@
+pub mod Looks
 pub mod Layers
 pub mod Idles
 pub mod Masks

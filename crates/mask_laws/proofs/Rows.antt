@@ -1,5 +1,5 @@
 -- Small loops with masks, computed.
-use Rattle.std.proofs.Common.{◌≡◌, refl, List, [], ◌∷◌, ℕ, ℤ, pos}
+use Rattle.std.proofs.Common.{◌≡◌, refl, [], ◌∷◌, ℤ, pos}
 use Rattle.ws_base.specs.declared.fault.FaultName.TheVariants.{Overflow}
 use Rattle.phase_ops.specs.declared.phase.Source.TheVariants.{Fixed}
 use Rattle.phase_ops.specs.declared.phase.Micro.TheVariants as op

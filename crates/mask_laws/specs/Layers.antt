@@ -1,6 +1,6 @@
 -- Acts that share their first ops: each begins with all ops of the acts before it, gates included, so that what these let go stays out.
 -- So a loop with direct masks has an act for each mask, with its line, and one for the assignment.
-use Rattle.std.specs.Prelude.{◌≡◌, ℕ, suc, ◌+◌, nat_lt, if◌then◌else◌, ℤ, false, List, [], ◌∷◌, ◌++◌, length, slice_index_or}
+use Rattle.std.specs.Prelude.{◌≡◌, ℕ, suc, ◌+◌, nat_lt, if◌then◌else◌, ℤ, false, List, [], ◌∷◌, ◌++◌, length, slice_index_or, ◌<◌, ◌⊎◌}
 use Rattle.phase_ops.specs.declared.effect.Effect.{Effect}
 use Rattle.phase_ops.specs.declared.effect.Effect.TheVariants.{Fault}
 use Rattle.phase_ops.specs.declared.phase.Micro.{Micro}
@@ -9,10 +9,11 @@ use Rattle.phase_ops.specs.declared.phase.Label.{Label}
 use Rattle.phase_ops.specs.declared.phase.Act.{Act}
 use Rattle.phase_ops.specs.declared.phase.Phase.TheVariants.{Loop}
 use Rattle.phase_ops.specs.Faults.{act_lines}
-use Rattle.phase_ops.specs.Phases.{Cells, key_of, Spot, Event, ops_events, makes, loads}
+use Rattle.phase_ops.specs.Phases.{Cells, key_of, Spot, Event, ops_events, makes}
 use Rattle.phase_ops.specs.Free.{In}
-use Rattle.loop_laws.specs.Loops.{does, looks_at}
+use Rattle.loop_laws.specs.Loops.{does, looks_at, Fitting}
 use Rattle.segment_laws.specs.Segments.{Ran, Through, Out, Broke, ran, AllStoreNothing}
+use Rattle.segment_laws.specs.Acts.{act}
 
 -- the ops that an act adds, and its line
 pub record Layer : Type 0 where
@@ -57,7 +58,7 @@ abbrev pub LayeredLaw : Type 0
 LayeredLaw =
     (layers : List Layer) (line : ℕ) (rest tail : List Micro) (m : Cells) (i : ℕ) → AllStoreNothing (ops_of layers) → AllStoreNothing rest
     → (does (layered layers line (rest ++ tail)) m i ≡ layered_end layers tail m i (ran i m [] (ops_of layers ++ rest)))
-    × ((c : ℕ) → In c (looks_at (layered layers line (rest ++ tail)) m i) → In c (loads (ops_events (spot_at (length layers) i) (ops_of layers ++ (rest ++ tail)) m [] no_rest)))
+    × ((c : ℕ) → In c (looks_at (layered layers line (rest ++ tail)) m i) → In c (looks_at (act line (ops_of layers ++ (rest ++ tail))) m i))
 
 -- the line of the layer that has the op of this number, and else the last act's
 abbrev pub line_from : ℕ → List Layer → ℕ → ℕ → ℕ
@@ -67,3 +68,13 @@ line_from before (x ∷ xs) line o = if nat_lt o (before + length x.ops) then x.
 -- A fault has the line of the layer that has its op.
 abbrev pub LineLaw : Type 0
 LineLaw = (layers : List Layer) (line : ℕ) (last : List Micro) (o l : ℕ) (b : Label) (count : Source) → slice_index_or (act_lines (Loop l b count (layered layers line last))) (layer_of layers o) 0 ≡ line_from 0 layers line o
+
+-- A later op stands in no earlier act.
+abbrev pub LayerOrderLaw : Type 0
+LayerOrderLaw = (layers : List Layer) (a b : ℕ) → a < b → (layer_of layers a < layer_of layers b) ⊎ ((layer_of layers a ≡ layer_of layers b) × (a < b))
+
+-- Where one act with all ops fits, such acts do.
+abbrev pub LayersFitLaw : Type 0
+LayersFitLaw =
+    (layers : List Layer) (line : ℕ) (last : List Micro) (count : Source) (m : Cells) (n : ℕ) → AllStoreNothing (ops_of layers) → length layers < 1048575
+    → Fitting count (act line (ops_of layers ++ last)) m n → Fitting count (layered layers line last) m n

@@ -1,6 +1,6 @@
 //! Laws of masks, each the contract of a function that does nothing.
 
-ghost use Rattle.mask_laws.specs.Layers.{LayeredLaw, LineLaw};
+ghost use Rattle.mask_laws.specs.Layers.{LayeredLaw, LineLaw, LayerOrderLaw, LayersFitLaw};
 ghost use Rattle.mask_laws.specs.Idles.{IdleLayeredLaw};
 ghost use Rattle.mask_laws.specs.Masks.{MaskingLaw, GateLaw};
 ghost use Rattle.mask_laws.specs.Controls.{ControlLaw, ControlGateLaw};
@@ -10,12 +10,23 @@ pub fn layered_law()
     ensures { LayeredLaw }
 {}
 
-/// A fault of such acts has the line of the layer that has its op.
+/// A fault of acts that share their first ops has the line of the layer that has its op.
 pub fn line_law()
     ensures { LineLaw }
 {}
 
-/// So do such acts behind the act that puts the negative of the number of its position.
+/// Of acts that share their first ops, no earlier one has a later op first.
+pub fn layer_order_law()
+    ensures { LayerOrderLaw }
+{}
+
+/// Where one act with all ops fits a loop, acts do that share their first ops.
+pub fn layers_fit_law()
+    ensures { LayersFitLaw }
+{}
+
+/// Acts that share their first ops, behind one that puts the negative of the number of its position, do what one act with all ops does over
+/// the memory that it leaves.
 pub fn idle_layered_law()
     ensures { IdleLayeredLaw }
 {}
@@ -35,7 +46,8 @@ pub fn control_law()
     ensures { ControlLaw }
 {}
 
-/// Such a cell is 1 exactly at the positions of the mask's block, and 0 exactly at those that ELSEWHERE takes up.
+/// A cell of a mask that was saved under a control is 1 exactly at the positions of the mask's block, and 0 exactly at those that ELSEWHERE
+/// takes up.
 pub fn control_gate_law()
     ensures { ControlGateLaw }
 {}

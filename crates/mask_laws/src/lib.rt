@@ -5,5 +5,6 @@
 mod laws;
 
 pub use laws::{
-    control_gate_law, control_law, gate_law, idle_layered_law, layered_law, line_law, masking_law,
+    control_gate_law, control_law, gate_law, idle_layered_law, layer_order_law, layered_law,
+    layers_fit_law, line_law, masking_law,
 };
