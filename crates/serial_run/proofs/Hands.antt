@@ -6,10 +6,11 @@ use Rattle.phase_ops.specs.declared.phase.Phase.{Phase}
 use Rattle.phase_ops.specs.Phases.{Cells, over, lay, least_key, natural, units, effects, reads, unit_reads, first_strand, strand_count, none_yet, key}
 use Rattle.phase_ops.specs.Free.{In, count_value, Apart, WellFormed, Free}
 use Rattle.phase_ops.specs.Faults.{HasKey}
-use Rattle.phase_ops.specs.Laws.{NoneFails, IsFirstFault, element_of}
+use Rattle.phase_ops.specs.Laws.{NoneFails, IsFirstFault}
 use Rattle.phase_ops.proofs.Members.{from_each}
 use Rattle.phase_ops.proofs.Strands.{lay_length}
 use Rattle.phase_ops.proofs.Keys.{key_holds}
+use Rattle.phase_ops.proofs.Held.{has_key}
 use Rattle.act_eval.specs.Sites.{View}
 use Rattle.act_eval.specs.Strands.{HasRoom, AreChunks, UnitBegins}
 use Rattle.act_eval.proofs.Leads.{lay_append}
@@ -109,12 +110,8 @@ has_room p m registers free e =
 
 -- ---- keys
 
-pub has_key : (p : Phase) (m : Cells) → Free p m → key p m 65536 < none_yet → HasKey p (key p m 65536)
-has_key p m free some = by (key_holds p m 65536 (omega arith, omega arith) (free_well p m free))
-  where
-    by : ((key p m 65536 ≡ none_yet) × NoneFails p m 65536) ⊎ ((key p m 65536 < none_yet) × IsFirstFault p m 65536 (key p m 65536)) → HasKey p (key p m 65536)
-    by (inl h) = let e = h.0 in absurd (omega (arith, e, some))
-    by (inr h) = let f = h.1 in (f.act, f.op, element_of p f.act f.iteration, f.name, f.is_key)
+pub free_key : (p : Phase) (m : Cells) → Free p m → key p m 65536 < none_yet → HasKey p (key p m 65536)
+free_key p m free some = has_key p m 65536 (omega arith, omega arith) (free_well p m free) some
 
 pub no_key : (p : Phase) (m : Cells) → Free p m → none_yet ≤ key p m 65536 → key p m 65536 ≡ none_yet
 no_key p m free none = by (key_holds p m 65536 (omega arith, omega arith) (free_well p m free))

@@ -13,165 +13,34 @@ use Rattle.phase_ops.specs.declared.phase.Act.{Act}
 use Rattle.phase_ops.specs.Phases.{Cells, Event, Loads, Makes, strand_events, strand_effects, reads, loads, makes, gives, divides, value_events, each_from, pieces, unit_size, partial_cells, joined, summed, after_phase, phase_effects}
 use Rattle.phase_ops.specs.Partials.{takes, is_reduction}
 use Rattle.phase_ops.specs.Free.{In, stored, lessened, NameEarlier, Free}
+use Rattle.phase_ops.proofs.Checked.{test, tested_free}
 use Rattle.phase_ops.proofs.Keys.{makes_loads}
 use Rattle.phase_ops.proofs.Members.{from_each}
 use Rattle.phase_ops.proofs.Strands.{lay_length}
 use Rattle.phase_ops.specs.declared.phase.Phase.{Phase}
-use Rattle.serial_run.specs.Samples.{once_act, single, storing, store_seven, overflowing, overflows, choosing, chosen, gating, gated, number_act, numbering, numbering_cells, bit_act, bits_part, bits_join}
+use Rattle.serial_run.specs.Samples.{single, storing, store_seven, overflowing, overflows, choosing, chosen, gating, gated, numbering, bit_act, bits_part, bits_join}
 
 only : {A : Type 0} (x y : A) → In x (y ∷ []) → x ≡ y
 only x y (inl e) = e
 only x y (inr i) = elim i [ ]
 
-none : {A : Type 0} {P : Type 0} (x : A) (xs : List A) → xs ≡ [] → In x xs → P
-none x xs e i = (let n : In x [] = subst (λ (l : List _). In x l) e i in elim n [ ])
+once_free : (ops : List Micro) (m : Cells) → ((chunk : ℕ) → test (single ops) m chunk ≡ true) → Free (single ops) m
+once_free ops m h = tested_free (single ops) m (omega (arith, ints), omega (arith, ints)) (omega arith) (λ chunk. tt) h
 
--- ---- one strand
+pub seven_free : Free store_seven (0 ∷ 0 ∷ [])
+seven_free = once_free storing _ (λ chunk. refl)
 
--- what the strand of these ops does: the cells that it stores in, those that it lays a Least over and those that it loads, and what it divides by
-abbrev Told : Type 0
-Told = List ℕ × List ℕ × List ℕ × List ℤ
+pub overflow_free : Free overflows (0 ∷ 0 ∷ [])
+overflow_free = once_free overflowing _ (λ chunk. refl)
 
-abbrev told : List Micro → Cells → ℕ → ℕ → Told
-told ops m chunk s = (stored (strand_effects (single ops) m chunk s), lessened (strand_effects (single ops) m chunk s), reads (single ops) m chunk s, divides (strand_events (single ops) m chunk s))
+pub chosen_free : Free chosen (0 ∷ [])
+chosen_free = once_free choosing _ (λ chunk. refl)
 
-module _ (ops : List Micro) (m : Cells) (xs ys : List ℕ) (ds : List ℤ) (few : length ops ≤ 1048576) (earlier : NameEarlier 0 ops) (does : (chunk s : ℕ) → told ops m chunk s ≡ (xs, ys, [], ds))
-    (there : (c : ℕ) → In c xs ⊎ In c ys → c < length m) (apart : (c : ℕ) → In c ys → In c xs → ⊥) (positive : (z : ℤ) → In z ds → pos 0 <ℤ z) where
-  stores : (chunk s c : ℕ) → In c (stored (strand_effects (single ops) m chunk s)) → In c xs
-  stores chunk s c i = subst (λ (t : Told). In c t.0) (does chunk s) i
+pub gated_free : Free gated (0 ∷ 20 ∷ [])
+gated_free = once_free gating _ (λ chunk. refl)
 
-  lessens : (chunk s c : ℕ) → In c (lessened (strand_effects (single ops) m chunk s)) → In c ys
-  lessens chunk s c i = subst (λ (t : Told). In c t.1) (does chunk s) i
-
-  loads_none : (chunk s c : ℕ) → In c (reads (single ops) m chunk s) → ⊥
-  loads_none chunk s c i = let n : In c [] = subst (λ (t : Told). In c t.2) (does chunk s) i in elim n [ ]
-
-  laid : (chunk s c : ℕ) → In c (stored (strand_effects (single ops) m chunk s)) ⊎ In c (lessened (strand_effects (single ops) m chunk s)) → c < length m
-  laid chunk s c (inl i) = there c (inl (stores chunk s c i))
-  laid chunk s c (inr i) = there c (inr (lessens chunk s c i))
-
-  least_alone : (chunk s t c : ℕ) → In c (lessened (strand_effects (single ops) m chunk s)) → In c (stored (strand_effects (single ops) m chunk t)) ⊎ In c (reads (single ops) m chunk t) → ⊥
-  least_alone chunk s t c i (inl j) = apart c (lessens chunk s c i) (stores chunk t c j)
-  least_alone chunk s t c i (inr j) = loads_none chunk t c j
-
-  single_free : Free (single ops) m
-  single_free chunk is = (
-    record {
-      stores = λ s t c a b i j. omega (arith, a, b);
-      loads_apart = λ s t c a b i j. omega (arith, a, b);
-      leasts = λ s t c a b i j. least_alone chunk s t c i j;
-      parameter_apart = λ s c a i j. elim j [ ];
-    },
-    record {
-      count = (omega (arith, ints), omega (arith, ints));
-      few_acts = omega arith;
-      few_ops = λ a i. subst (λ (x : Act). (length x.ops ≤ 1048576) × NameEarlier 0 x.ops) (sym (only a (once_act ops) i)) (few, earlier);
-      positive = λ s z a i. positive z (subst (λ (t : Told). In z t.3) (does chunk s) i);
-      reduction = tt;
-      there = λ c i. elim i [ ];
-      loaded = λ s c a i. absurd (loads_none chunk s c i);
-      laid = λ s c a i. laid chunk s c i;
-    },
-  )
-
--- an op that names no register, and one that names these
-names_none : (k r : ℕ) → In r [] → r < k
-names_none k r i = elim i [ ]
-
-names : (k a : ℕ) (more : List ℕ) → a < k → ((r : ℕ) → In r more → r < k) → (r : ℕ) → In r (a ∷ more) → r < k
-names k a more l h r (inl e) = omega (arith, e, l)
-names k a more l h r (inr i) = h r i
-
-stores_alone : (m : Cells) (cell : ℕ) → cell < length m → (c : ℕ) → In c (cell ∷ []) ⊎ In c [] → c < length m
-stores_alone m cell l c (inl i) = let e = only c cell i in omega (arith, e, l)
-stores_alone m cell l c (inr i) = elim i [ ]
-
-pub seven_free : (m : Cells) → 1 < length m → Free store_seven m
-seven_free m l = single_free storing m (1 ∷ []) [] [] (omega arith) (names_none 0, (names 1 0 [] (omega arith) (names_none 1), tt)) (λ chunk s. refl) (stores_alone m 1 l) (λ c i j. elim i [ ]) (λ z i. elim i [ ])
-
-pub overflow_free : (m : Cells) → 0 < length m → Free overflows m
-overflow_free m l = single_free overflowing m (0 ∷ []) [] [] (omega arith) (names_none 0, (names 1 0 [] (omega arith) (names_none 1), (names 2 0 [] (omega arith) (names_none 2), tt))) (λ chunk s. refl) (stores_alone m 0 l) (λ c i j. elim i [ ]) (λ z i. elim i [ ])
-
-pub chosen_free : (m : Cells) → 0 < length m → Free chosen m
-chosen_free m l = single_free choosing m (0 ∷ []) [] (pos 5 ∷ pos 2 ∷ []) (omega arith) named (λ chunk s. refl) (stores_alone m 0 l) (λ c i j. elim i [ ]) positive
-  where
-    selects : (r : ℕ) → In r (1 ∷ 2 ∷ 3 ∷ []) → r < 4
-    selects = names 4 1 (2 ∷ 3 ∷ []) (omega arith) (names 4 2 (3 ∷ []) (omega arith) (names 4 3 [] (omega arith) (names_none 4)))
-
-    named : NameEarlier 0 choosing
-    named = (names_none 0, (names 1 0 [] (omega arith) (names_none 1), (names_none 2, (names_none 3, (selects, (names 5 4 [] (omega arith) (names_none 5), tt))))))
-
-    positive : (z : ℤ) → In z (pos 5 ∷ pos 2 ∷ []) → pos 0 <ℤ z
-    positive z (inl e) = omega (arith, ints, e)
-    positive z (inr i) = let e = only z (pos 2) i in omega (arith, ints, e)
-
-pub gated_free : (m : Cells) → 1 < length m → Free gated m
-gated_free m l = single_free gating m [] (1 ∷ []) [] (omega arith) named (λ chunk s. refl) there (λ c i j. elim j [ ]) (λ z i. elim i [ ])
-  where
-    named : NameEarlier 0 gating
-    named = (names_none 0, (names 1 0 [] (omega arith) (names_none 1), (names_none 2, (names 3 2 [] (omega arith) (names_none 3), (names 4 0 [] (omega arith) (names_none 4), tt)))))
-
-    there : (c : ℕ) → In c [] ⊎ In c (1 ∷ []) → c < length m
-    there c (inl i) = elim i [ ]
-    there c (inr i) = let e = only c 1 i in omega (arith, e, l)
-
--- ---- three iterations
-
-three : (P : ℕ → Type 0) → P 0 → P 1 → P 2 → (s : ℕ) → s < 3 → P s
-three P a b c zero h = a
-three P a b c (suc zero) h = b
-three P a b c (suc (suc zero)) h = c
-three P a b c (suc (suc (suc s))) h = absurd (omega (arith, h))
-
-module _ (chunk : ℕ) where
-  abbrev done : ℕ → List Effect
-  done = strand_effects numbering numbering_cells chunk
-
-  number_stored : (s : ℕ) → s < 3 → stored (done s) ≡ (1 + s) ∷ []
-  number_stored = three (λ s. stored (done s) ≡ (1 + s) ∷ []) refl refl refl
-
-  number_lessened : (s : ℕ) → s < 3 → lessened (done s) ≡ []
-  number_lessened = three (λ s. lessened (done s) ≡ []) refl refl refl
-
-  number_reads : (s : ℕ) → s < 3 → reads numbering numbering_cells chunk s ≡ []
-  number_reads = three (λ s. reads numbering numbering_cells chunk s ≡ []) refl refl refl
-
-  number_divides : (s : ℕ) → s < 3 → divides (strand_events numbering numbering_cells chunk s) ≡ []
-  number_divides = three (λ s. divides (strand_events numbering numbering_cells chunk s) ≡ []) refl refl refl
-
-  at_store : (s c : ℕ) → s < 3 → In c (stored (done s)) → c ≡ 1 + s
-  at_store s c h i = only c (1 + s) (subst (λ (l : List ℕ). In c l) (number_stored s h) i)
-
-  after_count : (s c : ℕ) → s < 3 → In c (stored (done s)) ⊎ In c (lessened (done s)) → In c (0 ∷ []) → ⊥
-  after_count s c h (inl i) j = let e = at_store s c h i in let f = only c 0 j in omega (arith, e, f)
-  after_count s c h (inr i) j = none c (lessened (done s)) (number_lessened s h) i
-
-  laid_there : (s c : ℕ) → s < 3 → In c (stored (done s)) ⊎ In c (lessened (done s)) → c < 5
-  laid_there s c h (inl i) = let e = at_store s c h i in omega (arith, e, h)
-  laid_there s c h (inr i) = none c (lessened (done s)) (number_lessened s h) i
-
-pub numbering_free : (m : Cells) → m ≡ numbering_cells → Free numbering m
-numbering_free m same = subst (λ (x : Cells). Free numbering x) (sym same) (λ chunk is. (
-  record {
-    stores = λ s t c a b i j. let e = at_store chunk s c a i in let f = at_store chunk t c b j in omega (arith, e, f);
-    loads_apart = λ s t c a b i j. none c _ (number_reads chunk t b) j;
-    leasts = λ s t c a b i j. none c _ (number_lessened chunk s a) i;
-    parameter_apart = after_count chunk;
-  },
-  record {
-    count = (omega (arith, ints), omega (arith, ints));
-    few_acts = omega arith;
-    few_ops = few;
-    positive = λ s z a i. none z _ (number_divides chunk s a) i;
-    reduction = tt;
-    there = λ c i. let e = only c 0 i in omega (arith, e);
-    loaded = λ s c a i. none c _ (number_reads chunk s a) i;
-    laid = laid_there chunk;
-  },
-))
-  where
-    few : (a : Act) → In a (number_act ∷ []) → (length a.ops ≤ 1048576) × NameEarlier 0 a.ops
-    few a i = subst (λ (x : Act). (length x.ops ≤ 1048576) × NameEarlier 0 x.ops) (sym (only a _ i)) (omega arith, (names_none 0, (names 1 0 (0 ∷ []) (omega arith) (names 1 0 [] (omega arith) (names_none 1)), (names 2 0 [] (omega arith) (names_none 2), tt))))
+pub numbering_free : Free numbering (3 ∷ 8 ∷ 8 ∷ 8 ∷ 8 ∷ [])
+numbering_free = tested_free numbering _ (omega (arith, ints), omega (arith, ints)) (omega arith) (λ chunk. tt) (λ chunk. refl)
 
 -- ---- a reduction of 0 and 1
 
@@ -261,7 +130,7 @@ bits_part_free k m reduces room chunk is = (
   record {
     count = (omega (arith, ints), omega (arith, ints));
     few_acts = omega arith;
-    few_ops = λ a i. subst (λ (x : Act). (length x.ops ≤ 1048576) × NameEarlier 0 x.ops) (sym (only a bit_act i)) (omega arith, (names_none 0, tt));
+    few_ops = λ a i. subst (λ (x : Act). (length x.ops ≤ 1048576) × NameEarlier 0 x.ops) (sym (only a bit_act i)) (omega arith, (λ r j. elim j [ ], tt));
     positive = λ s z a i. absurd (bit_divides m (s * chunk) (unit_size 2 chunk s) z i);
     reduction = (reduces, (λ e. cc), λ s z a i. given s z i);
     there = λ c i. elim i [ ];

@@ -1,13 +1,10 @@
 -- How far one thread is in a unit.
 use Rattle.std.specs.Prelude.{◌≡◌, ℕ, ◌<◌, ◌≤◌, min, List, length, take}
-use Rattle.ws_base.specs.declared.fault.FaultName.{FaultName}
-use Rattle.ws_base.specs.declared.fault.Fault.{Fault}
 use Rattle.phase_ops.specs.declared.effect.Effect.{Effect}
 use Rattle.phase_ops.specs.declared.effect.Effect.TheVariants as effect
 use Rattle.phase_ops.specs.declared.phase.Phase.{Phase}
 use Rattle.phase_ops.specs.Phases.{Cells, effects, unit_reads, lay, least_key}
 use Rattle.phase_ops.specs.Free.{In}
-use Rattle.phase_ops.specs.Faults.{IsKey, HasKey, fault_at}
 use Rattle.serial_run.specs.declared.hand.Hand.{Hand}
 
 -- the lesser key
@@ -32,7 +29,3 @@ pub record IsAt (o : Order) (h : Hand) : Type 0 where
   pub cells_are : h.cells ≡ lay o.opening (take h.done o.effects)
   pub key_is : h.key ≡ least_key (take h.done o.effects)
   pub there : (c : ℕ) → In c o.may → c < length o.opening
-
--- the key is the phase's, and this is its fault
-abbrev pub IsFaultOf : Phase → ℕ → Fault → Type 0
-IsFaultOf p key f = HasKey p key × ((act op element : ℕ) (name : FaultName) → IsKey p key act op element name → f ≡ fault_at p act element name)

@@ -10,7 +10,7 @@ use Rattle.phase_ops.specs.declared.phase.Act.{Act}
 use Rattle.phase_ops.specs.declared.phase.Label.TheVariants.{Stage}
 use Rattle.phase_ops.specs.declared.phase.Phase.{Phase}
 use Rattle.phase_ops.specs.declared.phase.Phase.TheVariants.{Set, Loop, Part, Join}
-use Rattle.phase_ops.specs.Phases.{Cells}
+use Rattle.team_core.specs.Shifts.{cell_from}
 
 abbrev pub once_act : List Micro → Act
 once_act ops = record { line = 3; ops = ops; whole = true }
@@ -51,14 +51,10 @@ gated = single gating
 
 -- Stores the number of each iteration in the cells 1 on, and fails at each but the first. The cell 0 has the count.
 abbrev pub number_act : Act
-number_act = record { line = 5; ops = op.Position ∷ op.Store (record { base = Fixed (pos 1); terms = record { reg = 0; step = Fixed (pos 1) } ∷ [] }) 0 ∷ op.FailIf Bounds 0 ∷ []; whole = false }
+number_act = record { line = 5; ops = op.Position ∷ op.Store (cell_from 1) 0 ∷ op.FailIf Bounds 0 ∷ []; whole = false }
 
 abbrev pub numbering : Phase
 numbering = Loop 5 Stage (Cell 0) (number_act ∷ [])
-
--- three iterations, and a cell behind the three that they store in
-abbrev pub numbering_cells : Cells
-numbering_cells = 3 ∷ 8 ∷ 8 ∷ 8 ∷ 8 ∷ []
 
 -- the numbers of two iterations, 0 and 1, reduced: the partial in the cell 0, and the total in the cell 2
 abbrev pub bit_act : Act

@@ -3,8 +3,9 @@
 ghost use Rattle.std.specs.Prelude.{◌≡◌, ◌<◌, ◌^◌, length, MatchResult};
 ghost use Rattle.phase_ops.specs.Phases.{natural, units, effects, lay, least_key, none_yet, after_phase, key as key_of};
 ghost use Rattle.phase_ops.specs.Free.{count_value, Free};
+ghost use Rattle.phase_ops.specs.Faults.{IsFaultOf};
 ghost use Rattle.act_eval.specs.Strands.{AreChunks};
-ghost use Rattle.serial_run.specs.Hands.{order_of, IsFaultOf};
+ghost use Rattle.serial_run.specs.Hands.{order_of};
 
 use crate::hand::Hand;
 use crate::site::{Runs, SerialSite};

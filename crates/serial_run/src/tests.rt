@@ -1,14 +1,17 @@
 //! Each sort of op and of phase, by hand, over a few cells.
 
-ghost use Rattle.std.specs.Prelude.{◌≡◌, IsTrue, IfOk};
+ghost use Rattle.std.specs.Prelude.{◌≡◌, ◌<◌, ◌^◌, length, IsTrue, IfOk};
+ghost use Rattle.phase_ops.specs.Free.{Free};
 ghost use Rattle.phase_ops.specs.Partials.{is_reduction};
-ghost use Rattle.serial_run.specs.Samples.{store_seven, overflows, chosen, gated, numbering, numbering_cells, bits_part as spec_part, bits_join as spec_join, single, cell as spec_cell};
+ghost use Rattle.serial_run.specs.Samples.{store_seven, overflows, chosen, gated, numbering, bits_part as spec_part, bits_join as spec_join, single, cell as spec_cell};
 
 use crate::run_phase;
 use phase_board::Memory;
-use phase_ops::{Act, ActList, Address, Label, Micro, MicroList, Phase, Source, Term, TermList};
+use phase_ops::{Act, ActList, Address, Label, Micro, MicroList, Phase, Source, TermList};
 use std::alloc::{AllocError, Global};
 use std::test::Fail;
+use team_core::CellList;
+use team_core::samples::{cell_from, each, element_act};
 use ws_base::{CallWord, Fault, FaultName};
 
 /// A phase of these ops, once, which reports line 3.
@@ -77,67 +80,29 @@ fn shuts(alloc: Global) -> Result<Phase, AllocError>
     ensures { IfOk result (λ p. p ≡ gated) }
 {
     let least = Micro::Least(cell(alloc, 1), 0);
+    let zero = Micro::Fixed(0);
+    let gate = Micro::Gate(2);
     let store = Micro::Store(cell(alloc, 0), 0);
-    let ops = vec![in alloc;
-        Micro::Fixed(7),
-        least,
-        Micro::Fixed(0),
-        Micro::Gate(2),
-        store,
-    ]?;
+    let ops = vec![in alloc; Micro::Fixed(7), least, zero, gate, store]?;
     once(alloc, MicroList::from_vec(ops))
 }
 
 fn numbers(alloc: Global) -> Result<Phase, AllocError>
     ensures { IfOk result (λ p. p ≡ numbering) }
 {
-    let term = Term {
-        reg: 0,
-        step: Source::Fixed(1),
-    };
-    let behind = Address {
-        base: Source::Fixed(1),
-        terms: TermList::from_vec(vec![in alloc; term]?),
-    };
+    let store = Micro::Store(cell_from(alloc, 1)?, 0);
     let failing = Micro::FailIf(FaultName::Bounds, 0);
-    let ops = vec![in alloc; Micro::Position, Micro::Store(behind, 0), failing]?;
-    let act = Act {
-        line: 5,
-        ops: MicroList::from_vec(ops),
-        whole: false,
-    };
-    Ok(Phase::Loop {
-        line: 5,
-        label: Label::Stage,
-        count: Source::Cell(0),
-        acts: ActList::from_vec(vec![in alloc; act]?),
-    })
-}
-
-fn numbered(alloc: Global) -> Result<Memory, AllocError>
-    ensures { IfOk result (λ m. m.cells ≡ numbering_cells) }
-{
-    let mut memory = Memory::new(alloc, 5)?;
-    memory.set(0, 3);
-    memory.set(1, 8);
-    memory.set(2, 8);
-    memory.set(3, 8);
-    memory.set(4, 8);
-    Ok(memory)
+    let act = element_act(5, vec![in alloc; Micro::Position, store, failing]?);
+    each(alloc, Label::Stage, Source::Cell(0), act)
 }
 
 fn bits_part(alloc: Global, kind: CallWord) -> Result<Phase, AllocError>
     ensures { IfOk result (λ p. p ≡ spec_part kind) }
 {
-    let act = Act {
-        line: 4,
-        ops: MicroList::from_vec(vec![in alloc; Micro::Position]?),
-        whole: false,
-    };
     Ok(Phase::Part {
         line: 4,
         count: Source::Fixed(2),
-        act,
+        act: element_act(4, vec![in alloc; Micro::Position]?),
         kind,
         temp: 1,
         first: 0,
@@ -173,70 +138,59 @@ fn reduced(alloc: Global, kind: CallWord) -> Result<Option<u64>, AllocError>
     Ok(Some(memory.get(2)))
 }
 
-#[test]
-fn a_store_in_the_second_cell(rt: HostRuntime) -> Result<(), Fail> {
-    let alloc = rt.alloc();
-    let mut memory = Memory::new(alloc, 2)?;
-    let first = stores_seven(alloc)?;
-    assert!(rt; run_phase(&mut memory, &first).is_ok());
-    assert_eq!(rt; memory.get(0), 0);
-    assert_eq!(rt; memory.get(1), 7);
-    Ok(())
+/// Whether a phase ends with this fault, or with none, and leaves these cells.
+fn ends(
+    alloc: Global,
+    phase: &Phase,
+    cells: &[u64],
+    fault: Option<Fault>,
+    closing: &[u64],
+) -> Result<bool, AllocError>
+    requires free { Free phase.now cells.now }
+    requires few { length cells.now < 2 ^ 32 }
+{
+    let mut memory = Memory::new(alloc, 0)?;
+    memory.give_cells(CellList::from_slice(alloc, cells)?);
+    let found = run_phase(&mut memory, phase).err();
+    Ok(found == fault && memory.take_cells().as_slice() == closing)
 }
 
 #[test]
-fn what_was_stored_before_a_fault_stays(rt: HostRuntime) -> Result<(), Fail> {
+fn acts_that_run_once(rt: HostRuntime) -> Result<(), Fail> {
     let alloc = rt.alloc();
-    let mut memory = Memory::new(alloc, 2)?;
-    let phase = fails(alloc)?;
-    let expected = Fault {
+    assert!(rt; ends(alloc, &stores_seven(alloc)?, &[0, 0], None, &[0, 7])?);
+    let overflow = Fault {
         line: 3,
         name: FaultName::Overflow,
         element: 0,
     };
-    assert_eq!(rt; run_phase(&mut memory, &phase), Err(expected));
-    assert_eq!(rt; memory.get(0), 7);
-    assert_eq!(rt; memory.units(), 0);
-    Ok(())
-}
-
-#[test]
-fn a_digit_selects(rt: HostRuntime) -> Result<(), Fail> {
-    let alloc = rt.alloc();
-    let mut memory = Memory::new(alloc, 1)?;
-    let phase = chooses(alloc)?;
-    assert!(rt; run_phase(&mut memory, &phase).is_ok());
-    assert_eq!(rt; memory.get(0), 9);
-    Ok(())
-}
-
-#[test]
-fn a_least_lowers_and_a_gate_that_is_shut_ends_the_act(rt: HostRuntime) -> Result<(), Fail> {
-    let alloc = rt.alloc();
-    let mut memory = Memory::new(alloc, 2)?;
-    memory.set(1, 20);
-    let phase = shuts(alloc)?;
-    assert!(rt; run_phase(&mut memory, &phase).is_ok());
-    assert_eq!(rt; memory.get(0), 0);
-    assert_eq!(rt; memory.get(1), 7);
+    // What was stored before the fault stays.
+    assert!(rt; ends(alloc, &fails(alloc)?, &[0, 0], Some(overflow), &[7, 0])?);
+    // The second digit of 17 to the base 5 is odd.
+    assert!(rt; ends(alloc, &chooses(alloc)?, &[0], None, &[9])?);
+    // The Least lowers, and the gate that is shut ends the act.
+    assert!(rt; ends(alloc, &shuts(alloc)?, &[0, 20], None, &[0, 7])?);
     Ok(())
 }
 
 #[test]
 fn the_least_element_that_fails_is_told_and_all_have_stored(rt: HostRuntime) -> Result<(), Fail> {
     let alloc = rt.alloc();
-    let mut memory = numbered(alloc)?;
-    let phase = numbers(alloc)?;
-    let expected = Fault {
+    let bounds = Fault {
         line: 5,
         name: FaultName::Bounds,
         element: 2,
     };
-    assert_eq!(rt; run_phase(&mut memory, &phase), Err(expected));
-    assert_eq!(rt; memory.get(1), 0);
-    assert_eq!(rt; memory.get(2), 1);
-    assert_eq!(rt; memory.get(3), 2);
-    assert_eq!(rt; memory.get(4), 8);
+    let closing = [3, 0, 1, 2, 8];
+    assert!(rt;
+        ends(
+            alloc,
+            &numbers(alloc)?,
+            &[3, 8, 8, 8, 8],
+            Some(bounds),
+            &closing
+        )?
+    );
     Ok(())
 }
 
