@@ -64,11 +64,10 @@ fn broken_statement(
     ensures { IfOk result (λ rule. rule ≡ verdicts.first_broken verdicts.statement_rules (keeps_statements (facts_seen look.now) (record { around = around_seen around; before = before.now; number = 0; defined = [] }) op.now)) }
 {
     let table = look.table.as_slice();
-    let regions = op.regions.as_slice();
-    if !where_fits(look.alloc, table, &op.what, regions)? {
+    if !where_fits(look.alloc, table, op)? {
         return Ok(Some(Rule::Where));
     }
-    if !forall_fits(look.alloc, table, &op.what, regions)? {
+    if !forall_fits(look.alloc, table, op)? {
         return Ok(Some(Rule::Forall));
     }
     if !lists_fit(around.own, before, op) {

@@ -2,7 +2,8 @@
 
 ghost use Rattle.std.specs.Prelude.{◌≡◌, IfOk};
 ghost use Rattle.std.specs.List.{list_all};
-ghost use Rattle.hlfir_ops.specs.RulesRegions as held;
+ghost use Rattle.hlfir_ops.specs.declared.op.Op.{out-Op};
+ghost use Rattle.hlfir_ops.specs.RulesRegions.{first_kind, parts_in};
 ghost use Rattle.hlfir_ops.specs.RulesStatements as statements;
 ghost use Rattle.hlfir_ops.specs.RulesValues as values;
 ghost use Rattle.hlfir_ops.specs.Rules as rules;
@@ -59,7 +60,7 @@ fn mask_fits(
 
 /// So has the mask that the first of these regions yields.
 fn own_mask_fits(alloc: Global, table: &[Value], regions: &[Region]) -> Result<bool, AllocError>
-    ensures { IfOk result (λ b. b ≡ statements.mask_fits (seen table.now) (held.first_kind (seen table.now) (held.parts_in regions.now 0)) regions.now) }
+    ensures { IfOk result (λ b. b ≡ statements.mask_fits (seen table.now) (first_kind (seen table.now) (parts_in regions.now 0)) regions.now) }
 {
     let kind = first_kind(table, parts_in(regions, 0));
     mask_fits(alloc, table, kind, regions)
@@ -90,15 +91,11 @@ fn elsewhere_fits(alloc: Global, table: &[Value], regions: &[Region]) -> Result<
 
 /// What a where and an elsewhere hold, and the type and rank of their masks.
 #[tactic(auto, unfolding(hlfir_ops::specs::Rules::where_of))]
-pub fn where_fits(
-    alloc: Global,
-    table: &[Value],
-    what: &What,
-    regions: &[Region],
-) -> Result<bool, AllocError>
-    ensures { IfOk result (λ b. b ≡ rules.where_of (seen table.now) what.now regions.now) }
+pub fn where_fits(alloc: Global, table: &[Value], op: &Op) -> Result<bool, AllocError>
+    ensures { IfOk result (λ b. b ≡ rules.where_of (seen table.now) (out-Op op.now).what (out-Op op.now).regions) }
 {
-    match what {
+    let regions = op.regions.as_slice();
+    match &op.what {
         What::Masked => masked_fits(alloc, table, regions),
         What::Elsewhere => elsewhere_fits(alloc, table, regions),
         _ => Ok(true),
@@ -162,16 +159,11 @@ fn fits_forall(alloc: Global, table: &[Value], ops: &[Op]) -> Result<bool, Alloc
 
 /// What the body of a forall holds.
 #[tactic(auto, unfolding(hlfir_ops::specs::Rules::forall_of))]
-pub fn forall_fits(
-    alloc: Global,
-    table: &[Value],
-    what: &What,
-    regions: &[Region],
-) -> Result<bool, AllocError>
-    ensures { IfOk result (λ b. b ≡ rules.forall_of (seen table.now) what.now regions.now) }
+pub fn forall_fits(alloc: Global, table: &[Value], op: &Op) -> Result<bool, AllocError>
+    ensures { IfOk result (λ b. b ≡ rules.forall_of (seen table.now) (out-Op op.now).what (out-Op op.now).regions) }
 {
-    match what {
-        What::Forall(_) => fits_forall(alloc, table, ops_in(regions, 1)),
+    match &op.what {
+        What::Forall(_) => fits_forall(alloc, table, ops_in(op.regions.as_slice(), 1)),
         _ => Ok(true),
     }
 }

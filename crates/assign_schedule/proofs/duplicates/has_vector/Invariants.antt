@@ -1,6 +1,0 @@
-use Rattle.std.proofs.Common.{◌≡◌, drop}
-use Rattle.hlfir_ops.specs.RulesValues.{has_vector}
-use Rattle.assign_schedule.proofs.duplicates.has_vector.Given as goal
-
-abbrev pub invariant-each : goal.invariant-each
-invariant-each l = has_vector (drop l.sub-index l.subs) ≡ has_vector l.subs
