@@ -1,6 +1,7 @@
 -- There are as many values as places, and a fault comes at one of the places.
 use Rattle.std.proofs.Common.{◌≡◌, refl, ap, ℕ, suc, ◌<◌, List, [], ◌∷◌, map, length, All, Option, Some, None, IfSome, Result, Ok, Err, ℤ, pos, arith}
 use Rattle.std.specs.Prelude.{◌/◌, ◌%◌, ◌+ℤ◌}
+use Rattle.std.proofs.lemmas.List.{length-map}
 use Rattle.std.proofs.lemmas.List.Elements.{All-nil, All-cons}
 use Rattle.ws_base.specs.declared.fault.FaultName.{FaultName}
 use Rattle.ws_base.specs.Numbers.{Exact, default_half, unary_value, call_value}
@@ -34,10 +35,6 @@ Along n (Err t) = t.element < n
 abbrev pub AllAlong : ℕ → Staged (List (List ℤ)) → Type 0
 AllAlong n (Ok cs) = All (λ c. length c ≡ n) cs
 AllAlong n (Err t) = t.element < n
-
-map-length : {A B : Type 0} (f : A → B) (xs : List A) → length (map f xs) ≡ length xs
-map-length f [] = refl
-map-length f (x ∷ xs) = ap suc (map-length f xs)
 
 joined-along : {B : Type 0} (n : ℕ) (r : Result B FaultName) (rest : Staged (List B)) → Along n rest → Along (suc n) (joined r rest)
 joined-along n (Err name) rest h = omega arith
@@ -75,8 +72,8 @@ further n m r e h = rw (← e) h
 
 mutual
   pub values-along : (t : Term) (at : List ℕ) → Along (length at) (values t at)
-  values-along (Scalar v) at = map-length (λ _. v) at
-  values-along (Listed xs) at = map-length (value_at xs) at
+  values-along (Scalar v) at = length-map at (λ _. v)
+  values-along (Listed xs) at = length-map at (value_at xs)
   values-along (Section' a _ ps) at = rows-along (element a) at (columns ps at) (columns-along ps at)
   values-along (unary_term op t) at = unary-along (unary_value default_half op) (length at) (values t at) (values-along t at)
   values-along (binary_term op t u) at = binary-along (pair_value op) at (values t at) (values u at) (values-along t at) (values-along u at)
@@ -88,18 +85,18 @@ mutual
 
   columns-along : {m : _} (ps : Picks m) (at : List ℕ) → AllAlong (length at) (columns ps at)
   columns-along end_picks at = All-nil (λ c. length c ≡ length at)
-  columns-along (more_picks (One i) ps) at = column-along (length at) (Ok (map (λ _. i) at)) (columns ps at) (map-length (λ _. i) at) (columns-along ps at)
+  columns-along (more_picks (One i) ps) at = column-along (length at) (Ok (map (λ _. i) at)) (columns ps at) (length-map at (λ _. i)) (columns-along ps at)
   columns-along (more_picks (Full d) ps) at =
-      column-along (length at) (Ok (map (λ p. d.lower +ℤ pos (p % d.extent)) at)) (columns ps (beyond d.extent at)) (map-length (λ p. d.lower +ℤ pos (p % d.extent)) at)
-      (further (length at) (length (beyond d.extent at)) (columns ps (beyond d.extent at)) (map-length (λ p. p / d.extent) at) (columns-along ps (beyond d.extent at)))
+      column-along (length at) (Ok (map (λ p. d.lower +ℤ pos (p % d.extent)) at)) (columns ps (beyond d.extent at)) (length-map at (λ p. d.lower +ℤ pos (p % d.extent)))
+      (further (length at) (length (beyond d.extent at)) (columns ps (beyond d.extent at)) (length-map at (λ p. p / d.extent)) (columns-along ps (beyond d.extent at)))
   columns-along (more_picks (Range t) ps) at =
-      column-along (length at) (Ok (map (λ p. stepped t (p % count t)) at)) (columns ps (beyond (count t) at)) (map-length (λ p. stepped t (p % count t)) at)
-      (further (length at) (length (beyond (count t) at)) (columns ps (beyond (count t) at)) (map-length (λ p. p / count t) at) (columns-along ps (beyond (count t) at)))
+      column-along (length at) (Ok (map (λ p. stepped t (p % count t)) at)) (columns ps (beyond (count t) at)) (length-map at (λ p. stepped t (p % count t)))
+      (further (length at) (length (beyond (count t) at)) (columns ps (beyond (count t) at)) (length-map at (λ p. p / count t)) (columns-along ps (beyond (count t) at)))
   columns-along (more_picks (Vector t) ps) at =
       let n = vector_extent (operands t) in
-      let same : length (here n at) ≡ length at = map-length (λ p. p % n) at in
+      let same : length (here n at) ≡ length at = length-map at (λ p. p % n) in
       column-along (length at) (values t (here n at)) (columns ps (beyond n at)) (rw (← same) (values-along t (here n at)))
-      (further (length at) (length (beyond n at)) (columns ps (beyond n at)) (map-length (λ p. p / n) at) (columns-along ps (beyond n at)))
+      (further (length at) (length (beyond n at)) (columns ps (beyond n at)) (length-map at (λ p. p / n)) (columns-along ps (beyond n at)))
 
 -- the targets of a section
 targets-along : (t : Term) (at : List ℕ) → IfSome (array_of t) (λ _. Along (length at) (targets t at))

@@ -1,9 +1,10 @@
 -- Shapes, their sizes and their places.
-use Rattle.std.proofs.Common.{◌≡◌, ℕ, zero, suc, ◌+◌, ◌-◌, ◌*◌, ◌<◌, ◌≤◌, min, true, false, List, [], ◌∷◌, ◌++◌, length, take, drop, get_or, replicate, ℤ, refl, sym, ap, ◌∙◌, arith}
+use Rattle.std.proofs.Common.{◌≡◌, ℕ, zero, suc, ◌+◌, ◌-◌, ◌*◌, ◌<◌, ◌≤◌, min, List, [], ◌∷◌, ◌++◌, length, take, drop, get_or, replicate, ℤ, refl, sym, ap, ◌∙◌, arith}
 use Rattle.std.proofs.Math.Nat.{mul-le-mul_left, mul-le-mul_right, zero-mul}
-use Rattle.ws_space.specs.Shapes.{Extents, size, same_extents, agreed, places_from, all_places}
+use Rattle.ws_space.specs.Shapes.{Extents, size, places_from, all_places}
 use Rattle.ws_space.specs.Maps.{everywhere_same}
-use Rattle.term_eval.proofs.Front.{front, parts_of}
+use Rattle.ws_space.proofs.Places.{length-places_from}
+use Rattle.term_eval.proofs.Front.{parts_of}
 
 -- ---- sizes
 
@@ -43,12 +44,8 @@ pub places_from-more : (k n : ℕ) → places_from k (suc n) ≡ places_from k n
 places_from-more k zero = ap (λ m. m ∷ []) (omega arith)
 places_from-more k (suc n) = ap (λ l. k ∷ l) (places_from-more (suc k) n ∙ ap (λ m. places_from (suc k) n ++ m ∷ []) (omega arith))
 
-pub places_from-length : (k n : ℕ) → length (places_from k n) ≡ n
-places_from-length k zero = refl
-places_from-length k (suc n) = ap suc (places_from-length (suc k) n)
-
 pub few_places : (e : Extents) (at at' : List ℕ) → size e ≤ 65536 → at ≡ all_places e → at' ≡ at → length at' ≤ 65536
-few_places e at at' h is same = omega (arith, ap length same, ap length is, places_from-length 0 (size e), h)
+few_places e at at' h is same = omega (arith, ap length same, ap length is, length-places_from 0 (size e), h)
 
 -- ---- one value at every place
 

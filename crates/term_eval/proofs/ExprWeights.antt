@@ -1,5 +1,5 @@
 -- How much an expression holds: what stands in it weighs less.
-use Rattle.std.proofs.Common.{◌≡◌, refl, sym, ap, ◌∙◌, ℕ, zero, suc, ◌+◌, ◌*◌, ◌<◌, ◌≤◌, List, [], ◌∷◌, length, get_or, Option, Some, None, arith}
+use Rattle.std.proofs.Common.{◌≡◌, refl, ap, ◌∙◌, ℕ, suc, ◌+◌, ◌*◌, ◌<◌, List, [], ◌∷◌, length, get_or, Option, Some, None}
 use Rattle.ws_base.specs.declared.op.CallWord.{CallWord}
 use Rattle.ws_tree.specs.declared.expr.Expr.{Expr}
 use Rattle.ws_tree.specs.declared.expr.Expr.TheVariants.{Part', Call', Vector', Part, Call, Vector}
@@ -8,6 +8,7 @@ use Rattle.ws_tree.specs.declared.expr.Sub.{Sub}
 use Rattle.ws_tree.specs.declared.expr.Sub.TheVariants as sub
 use Rattle.ws_tree.specs.Trees.{Exprs, end_exprs, more_exprs, Subs, end_subs, more_subs, Given, absent, given, paren, unary, binary}
 use Rattle.ws_tree.specs.Opened.{trees_open}
+use Rattle.term_eval.proofs.Rows.{row_weight, row-within, one-within}
 
 abbrev mutual
   pub weight : Expr → ℕ
@@ -36,12 +37,10 @@ abbrev mutual
   given_weight (given e) = suc (weight e)
 
 abbrev pub exprs_weight : List Expr → ℕ
-exprs_weight [] = 0
-exprs_weight (e ∷ es) = weight e + exprs_weight es
+exprs_weight = row_weight weight
 
 abbrev pub subs_weight : List Sub → ℕ
-subs_weight [] = 0
-subs_weight (s ∷ ss) = sub_weight s + subs_weight ss
+subs_weight = row_weight sub_weight
 
 abbrev pub part_weight : Option Expr → ℕ
 part_weight None = 0
@@ -72,26 +71,16 @@ vector_is es = ap suc (exprs_list es)
 -- ---- what the calls go down to
 
 pub of_part : (n : ℕ) (e : Expr) (x : List ℕ) (ss ss' : List Sub) → 2 * weight e ≡ n → e ≡ Part x ss → ss' ≡ ss → 2 * subs_weight ss' + 1 < n
-of_part n e x ss ss' m is same = let h : weight e ≡ suc (subs_weight ss') = ap weight is ∙ part_is x ss ∙ ap (λ l. suc (subs_weight l)) (sym same) in omega (arith, h, m)
+of_part n e x ss ss' m is = row-within sub_weight n (weight e) ss ss' m (ap weight is ∙ part_is x ss)
 
 pub of_call : (n : ℕ) (e : Expr) (w : CallWord) (es es' : List Expr) → 2 * weight e ≡ n → e ≡ Call w es → es' ≡ es → 2 * exprs_weight es' + 1 < n
-of_call n e w es es' m is same = let h : weight e ≡ suc (exprs_weight es') = ap weight is ∙ call_is w es ∙ ap (λ l. suc (exprs_weight l)) (sym same) in omega (arith, h, m)
+of_call n e w es es' m is = row-within weight n (weight e) es es' m (ap weight is ∙ call_is w es)
 
 pub of_vector : (n : ℕ) (e : Expr) (es es' : List Expr) → 2 * weight e ≡ n → e ≡ Vector es → es' ≡ es → 2 * exprs_weight es' + 1 < n
-of_vector n e es es' m is same = let h : weight e ≡ suc (exprs_weight es') = ap weight is ∙ vector_is es ∙ ap (λ l. suc (exprs_weight l)) (sym same) in omega (arith, h, m)
-
-expr-within : (es : List Expr) (i : ℕ) (d : Expr) → i < length es → weight (get_or es i d) ≤ exprs_weight es
-expr-within [] i d h = absurd (omega (arith, h))
-expr-within (e ∷ es) zero d h = omega arith
-expr-within (e ∷ es) (suc i) d h = omega (arith, expr-within es i d (omega (arith, h)))
-
-sub-within : (ss : List Sub) (i : ℕ) (d : Sub) → i < length ss → sub_weight (get_or ss i d) ≤ subs_weight ss
-sub-within [] i d h = absurd (omega (arith, h))
-sub-within (s ∷ ss) zero d h = omega arith
-sub-within (s ∷ ss) (suc i) d h = omega (arith, sub-within ss i d (omega (arith, h)))
+of_vector n e es es' m is = row-within weight n (weight e) es es' m (ap weight is ∙ vector_is es)
 
 pub of_exprs : (n : ℕ) (es : List Expr) (i : ℕ) (e : Expr) → 2 * exprs_weight es + 1 ≡ n → i < length es → e ≡ get_or es i e → 2 * weight e < n
-of_exprs n es i e m low is = omega (arith, ap weight is, expr-within es i e low, m)
+of_exprs = one-within weight
 
 pub of_subs : (n : ℕ) (ss : List Sub) (i : ℕ) (s : Sub) → 2 * subs_weight ss + 1 ≡ n → i < length ss → s ≡ get_or ss i s → 2 * sub_weight s < n
-of_subs n ss i s m low is = omega (arith, ap sub_weight is, sub-within ss i s low, m)
+of_subs = one-within sub_weight

@@ -1,6 +1,5 @@
 -- What the definitions say of terms at each form, over the lists that the code goes over.
 use Rattle.std.proofs.Common.{◌≡◌, refl, ap, ℕ, List, [], ◌∷◌, ◌++◌, All, Ok}
-use Rattle.std.proofs.lemmas.List.Elements.{All-nil, All-cons, All-head, All-tail}
 use Rattle.ws_base.specs.declared.op.CallWord.{CallWord}
 use Rattle.ws_base.specs.Outcomes.{◌>>=◌}
 use Rattle.ws_space.specs.declared.state.ArrayValue.{ArrayValue}
@@ -17,6 +16,7 @@ use Rattle.array_meaning.specs.Stage1.{picked}
 use Rattle.array_meaning.specs.Stage2.{array_operand, vector_extent, operands, all_operands, extents, extent, values, all_values, columns, targets}
 use Rattle.term_eval.specs.Limits.{IsFew, IsSmallArray, IsSmallTerm, AreSmallTerms, AreSmallPicks, IsSmallPick}
 use Rattle.term_eval.specs.Lists as lists
+use Rattle.term_eval.proofs.Rows.{each_in_row, row_of_each}
 
 -- ---- lists
 
@@ -42,26 +42,6 @@ columns_list (One i ∷ ps) at = ap (λ r. r >>= (λ rest. Ok (everywhere_same i
 columns_list (Full d ∷ ps) at = ap (λ r. r >>= (λ rest. Ok (full_column d at ∷ rest))) (columns_list ps (beyond d.extent at))
 columns_list (Range t ∷ ps) at = ap (λ r. r >>= (λ rest. Ok (triplet_column t at ∷ rest))) (columns_list ps (beyond (count t) at))
 columns_list (Vector t ∷ ps) at = ap (λ r. values t (here (vector_extent (operands t)) at) >>= (λ xs. r >>= (λ rest. Ok (xs ∷ rest)))) (columns_list ps (beyond (vector_extent (operands t)) at))
-
-pub small_terms : (ts : List Term) → AreSmallTerms (hidden-the_row-Term-2 ts) → All IsSmallTerm ts
-unfolding terms_open
-small_terms [] h = All-nil IsSmallTerm
-small_terms (t ∷ ts) h = All-cons IsSmallTerm t ts h.0 (small_terms ts h.1)
-
-pub small_picks : (ps : List Pick) → AreSmallPicks (hidden-the_row-Pick-0 ps) → All IsSmallPick ps
-unfolding terms_open
-small_picks [] h = All-nil IsSmallPick
-small_picks (p ∷ ps) h = All-cons IsSmallPick p ps h.0 (small_picks ps h.1)
-
-pub are_small_terms : (ts : List Term) → All IsSmallTerm ts → AreSmallTerms (hidden-the_row-Term-2 ts)
-unfolding terms_open
-are_small_terms [] h = tt
-are_small_terms (t ∷ ts) h = (All-head IsSmallTerm t ts h, are_small_terms ts (All-tail IsSmallTerm t ts h))
-
-pub are_small_picks : (ps : List Pick) → All IsSmallPick ps → AreSmallPicks (hidden-the_row-Pick-0 ps)
-unfolding terms_open
-are_small_picks [] h = tt
-are_small_picks (p ∷ ps) h = (All-head IsSmallPick p ps h, are_small_picks ps (All-tail IsSmallPick p ps h))
 
 -- ---- forms
 
@@ -89,16 +69,16 @@ targets_section a ps at = ap (λ r. r >>= places_at a at) (columns_list ps at)
 
 pub small_section : (a : ArrayValue) (ps : List Pick) → IsSmallTerm (Section a ps) → IsSmallArray a × All IsSmallPick ps
 unfolding terms_open
-small_section a ps h = (h.0, small_picks ps h.2)
+small_section a ps h = (h.0, each_in_row IsSmallPick (λ qs. AreSmallPicks (hidden-the_row-Pick-0 qs)) (λ q qs k. k) ps h.2)
 
 pub is_small_section : (a : ArrayValue) (ps : List Pick) → IsSmallArray a → IsFew (picked ps) → All IsSmallPick ps → IsSmallTerm (Section a ps)
 unfolding terms_open
-is_small_section a ps h few is = (h, rw extents_list few, are_small_picks ps is)
+is_small_section a ps h few is = (h, rw extents_list few, row_of_each IsSmallPick (λ qs. AreSmallPicks (hidden-the_row-Pick-0 qs)) tt (λ q qs k. k) ps is)
 
 pub small_call : (w : CallWord) (ts : List Term) → IsSmallTerm (Call w ts) → All IsSmallTerm ts
 unfolding terms_open
-small_call w ts h = small_terms ts h
+small_call w ts h = each_in_row IsSmallTerm (λ us. AreSmallTerms (hidden-the_row-Term-2 us)) (λ u us k. k) ts h
 
 pub is_small_call : (w : CallWord) (ts : List Term) → All IsSmallTerm ts → IsSmallTerm (Call w ts)
 unfolding terms_open
-is_small_call w ts h = are_small_terms ts h
+is_small_call w ts h = row_of_each IsSmallTerm (λ us. AreSmallTerms (hidden-the_row-Term-2 us)) tt (λ u us k. k) ts h

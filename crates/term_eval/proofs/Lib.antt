@@ -1,12 +1,14 @@
 mod Front
 mod Made
+mod RowLoops
+mod Rows
 pub mod Columns
 mod Elements
 mod Forms
 pub mod Along
 pub mod Integers
 pub mod SmallTerms
-mod Variables
+pub mod Variables
 mod LeftSides
 pub mod WalkValues
 pub mod ExprWeights
@@ -14,7 +16,7 @@ mod Scalars
 mod Checks
 mod Weights
 pub mod TermValues
-mod Stepped
+pub mod Stepped
 mod OperandShapes
 pub mod WalkForms
 pub mod SmallWalk

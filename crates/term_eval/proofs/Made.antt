@@ -5,7 +5,7 @@ use Rattle.std.proofs.Math.Seq.{drop-cons}
 use Rattle.std.proofs.Math.ListN.{drop_of_length-le}
 use Rattle.ws_base.specs.declared.fault.FaultName.{FaultName}
 use Rattle.ws_base.specs.declared.fault.Trouble.{Trouble}
-use Rattle.ws_base.specs.Outcomes.{Staged, trouble, joined, each}
+use Rattle.ws_base.specs.Outcomes.{Staged, ◌>>=◌, trouble, joined, each}
 use Rattle.term_eval.specs.declared.stop.Stop.{Stop}
 use Rattle.term_eval.specs.declared.stop.Stop.TheVariants.{Memory, Failed}
 use Rattle.term_eval.specs.Made.{Stops, keeps, made_then}
@@ -49,6 +49,19 @@ module _ {A B : Type 0} (f : A → Result B FaultName) where
 
   pub all_made : (xs : List A) (i : ℕ) (made : List B) → length xs ≤ i → each f xs ≡ made_then made (each f (drop i xs)) → each f xs ≡ Ok made
   all_made xs i made h before = before ∙ (ap (λ l. made_then made (each f l)) (drop_of_length-le xs h) ∙ ap Ok (append-nil made))
+
+-- ---- an operation, and then another that never fails
+
+module _ {A B C : Type 0} (f : A → Result B FaultName) (g : B → C) where
+  joined_then : (r : Result B FaultName) (rest : Staged (List B)) (both : Staged (List C)) → both ≡ (rest >>= (λ ys. Ok (map g ys))) →
+      joined (r >>= (λ y. Ok (g y))) both ≡ (joined r rest >>= (λ ys. Ok (map g ys)))
+  joined_then (Err n) rest both h = refl
+  joined_then (Ok y) (Ok ys) both h = ap (joined (Ok (g y))) h
+  joined_then (Ok y) (Err t) both h = ap (joined (Ok (g y))) h
+
+  pub each_then : (xs : List A) → each (λ x. f x >>= (λ y. Ok (g y))) xs ≡ (each f xs >>= (λ ys. Ok (map g ys)))
+  each_then [] = refl
+  each_then (x ∷ xs) = joined_then (f x) (each f xs) (each (λ z. f z >>= (λ y. Ok (g y))) xs) (each_then xs)
 
 -- ---- one answer for every item
 

@@ -1,7 +1,6 @@
 -- The place of an element, dimension by dimension.
-use Rattle.std.proofs.Common.{◌≡◌, refl, sym, ap, subst, ◌∙◌, ℕ, ◌+◌, ◌-◌, ◌*◌, ◌<◌, ◌≤◌, Bool, true, false, List, ◌∷◌, length, take, drop, get_or, Ok, Err, ℤ, pos, ◌-ℤ◌, arith}
+use Rattle.std.proofs.Common.{◌≡◌, refl, sym, ap, subst, ◌∙◌, ℕ, ◌+◌, ◌-◌, ◌*◌, ◌<◌, ◌≤◌, Bool, true, false, List, ◌∷◌, length, take, drop, get_or, Err, ℤ, pos, ◌-ℤ◌, arith}
 use Rattle.ws_base.specs.declared.fault.FaultName.{FaultName}
-use Rattle.ws_base.specs.declared.fault.FaultName.TheVariants.{Bounds}
 use Rattle.ws_space.specs.declared.shape.Dim.{Dim}
 use Rattle.ws_space.specs.Shapes.{extents_of, size, natural, within, distance, place}
 use Rattle.ws_space.proofs.Distances.{distance_below}

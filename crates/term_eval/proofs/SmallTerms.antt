@@ -1,71 +1,43 @@
 -- The values of small terms are default integers, and no more than an array may have elements.
-use Rattle.std.proofs.Common.{refl, ℕ, zero, suc, ◌≤◌, true, false, List, [], ◌∷◌, map, length, All, Result, Ok, Err, IfOk, ℤ, arith}
+use Rattle.std.proofs.Common.{ℕ, ◌≤◌, true, false, List, [], ◌∷◌, length, All, Ok, Err, IfOk, ℤ, arith}
 use Rattle.std.specs.Prelude.{Bool, if◌then◌else◌}
 use Rattle.std.proofs.lemmas.List.Elements.{All-nil, All-cons, All-head, All-tail, All-append}
-use Rattle.ws_base.specs.declared.fault.FaultName.{FaultName}
 use Rattle.ws_base.specs.declared.fault.FaultName.TheVariants.{Shape as Shape'}
 use Rattle.ws_base.specs.Numbers.{default_half, unary_value, call_value}
-use Rattle.ws_base.specs.Outcomes.{Staged, trouble, joined, each, rows, pair_up}
+use Rattle.ws_base.specs.Outcomes.{Staged, trouble, rows}
 use Rattle.ws_space.specs.declared.state.ArrayValue.{ArrayValue}
 use Rattle.ws_space.specs.Faults.{over_all_places}
 use Rattle.ws_space.specs.Maps.{pair_value}
-use Rattle.ws_space.specs.Shapes.{Extents, dims, place, size, same_extents, agreed, all_places}
+use Rattle.ws_space.specs.Shapes.{Extents, size, same_extents, agreed, all_places}
 use Rattle.ws_space.specs.Values.{value_at, element}
 use Rattle.array_meaning.specs.declared.term.Term.{Term}
 use Rattle.array_meaning.specs.declared.term.Term.TheVariants.{Scalar, Listed, Section', Call'}
 use Rattle.array_meaning.specs.declared.term.Pick.TheBlock.{Row_of-Term as Terms, end_of-Term as end_terms, more_of-Term as more_terms}
 use Rattle.array_meaning.specs.Terms.{unary_term, binary_term}
 use Rattle.array_meaning.specs.Stage2.{array_operand, operands, all_operands, extents, values, all_values, columns, whole}
-use Rattle.term_eval.specs.Limits.{IsInteger, IsFew, IsSmallTerm, AreSmallTerms}
-use Rattle.term_eval.proofs.Along.{Along, values-along}
 use Rattle.array_meaning.proofs.Chains.{after_each, after_fact}
-use Rattle.term_eval.proofs.Elements.{places_from-length}
+use Rattle.array_meaning.proofs.KeptValues.{value_at-passes}
+use Rattle.array_meaning.proofs.TypedValues as typed
+pub use Rattle.array_meaning.proofs.TypedValues.{map-all, each-passes as each-all, each-all as each-any}
+use Rattle.term_eval.specs.Limits.{IsInteger, IsFew, IsSmallTerm, AreSmallTerms}
+use Rattle.ws_space.proofs.Places.{length-places_from}
+use Rattle.term_eval.proofs.Along.{Along, values-along}
 use Rattle.term_eval.proofs.Integers.{unary-integer, pair-integer, call-integer}
 
 -- ---- lists of values
 
-pub value_at-integer : (xs : List ℤ) (p : ℕ) → All IsInteger xs → IsInteger (value_at xs p)
-value_at-integer [] p is = refl
-value_at-integer (x ∷ xs) zero is = All-head IsInteger x xs is
-value_at-integer (x ∷ xs) (suc p) is = value_at-integer xs p (All-tail IsInteger x xs is)
-
-pub map-all : {A B : Type 0} (P : B → Type 0) (f : A → B) → ((x : A) → P (f x)) → (xs : List A) → All P (map f xs)
-map-all P f h [] = All-nil P
-map-all P f h (x ∷ xs) = All-cons P (f x) (map f xs) (h x) (map-all P f h xs)
-
-joined-all : {B : Type 0} (P : B → Type 0) (r : Result B FaultName) (rest : Staged (List B)) → IfOk r P → IfOk rest (All P) → IfOk (joined r rest) (All P)
-joined-all P (Err n) rest h hs = tt
-joined-all P (Ok y) (Ok ys) h hs = All-cons P y ys h hs
-joined-all P (Ok y) (Err t) h hs = tt
-
-pub each-all : {A B : Type 0} (Q : A → Type 0) (P : B → Type 0) (f : A → Result B FaultName) → ((x : A) → Q x → IfOk (f x) P) → (xs : List A) → All Q xs → IfOk (each f xs) (All P)
-each-all Q P f h [] is = All-nil P
-each-all Q P f h (x ∷ xs) is = joined-all P (f x) (each f xs) (h x (All-head Q x xs is)) (each-all Q P f h xs (All-tail Q x xs is))
-
-pub each-any : {A B : Type 0} (P : B → Type 0) (f : A → Result B FaultName) → ((x : A) → IfOk (f x) P) → (xs : List A) → IfOk (each f xs) (All P)
-each-any P f h [] = All-nil P
-each-any P f h (x ∷ xs) = joined-all P (f x) (each f xs) (h x) (each-any P f h xs)
-
-pair_up-all : (c : List ℤ) (rs : List (List ℤ)) → All IsInteger c → All (All IsInteger) rs → All (All IsInteger) (pair_up c rs)
-pair_up-all [] rs h is = All-nil (All IsInteger)
-pair_up-all (x ∷ c) [] h is = All-nil (All IsInteger)
-pair_up-all (x ∷ c) (r ∷ rs) h is =
-    All-cons (All IsInteger) (x ∷ r) (pair_up c rs) (All-cons IsInteger x r (All-head IsInteger x c h) (All-head (All IsInteger) r rs is))
-    (pair_up-all c rs (All-tail IsInteger x c h) (All-tail (All IsInteger) r rs is))
-
 pub rows-all : {X : Type 0} (at : List X) (cs : List (List ℤ)) → All (All IsInteger) cs → All (All IsInteger) (rows at cs)
-rows-all at [] is = map-all (All IsInteger) (λ _. []) (λ _. All-nil IsInteger) at
-rows-all at (c ∷ cs) is = pair_up-all c (rows at cs) (All-head (All IsInteger) c cs is) (rows-all at cs (All-tail (All IsInteger) c cs is))
+rows-all = typed.rows-all false
 
 pub element-integer : (a : ArrayValue) (is : List ℤ) → All IsInteger a.values → IfOk (element a is) IsInteger
-element-integer a is h = after_each _ (place (dims a.shape) is) _ (λ p. value_at-integer a.values p h)
+element-integer = typed.element-passes false
 
 -- ---- values
 
 mutual
   pub values-integers : (t : Term) → IsSmallTerm t → (at : List ℕ) → IfOk (values t at) (All IsInteger)
   values-integers (Scalar v) h at = map-all IsInteger (λ _. v) (λ _. h) at
-  values-integers (Listed xs) h at = map-all IsInteger (value_at xs) (λ p. value_at-integer xs p h.1) at
+  values-integers (Listed xs) h at = map-all IsInteger (value_at xs) (λ p. value_at-passes false xs p h.1) at
   values-integers (Section' a _ ps) h at = after_each _ (columns ps at) _ (λ cs. each-any IsInteger (element a) (λ is. element-integer a is h.0.values) (rows at cs))
   values-integers (unary_term op t) h at = after_fact (All IsInteger) _ (values t at) _ (values-integers t h at) (λ xs is. each-all IsInteger IsInteger (unary_value default_half op) (unary-integer op) xs is)
   values-integers (binary_term op t u) h at = after_each _ (values t at) _ (λ xs. after_each _ (values u at) _ (λ ys. each-any IsInteger (pair_value op) (pair-integer op) (rows at (xs ∷ ys ∷ []))))
@@ -114,4 +86,4 @@ over_all (Err t) n few h is = tt
 pub whole-small : (t : Term) → IsSmallTerm t → IfOk (whole t) (λ xs. (length xs ≤ 65536) × All IsInteger xs)
 whole-small t h =
     after_fact IsFew _ (agreed (operands t)) _ (agreed-few (operands t) (operands-few t h)) (λ e few.
-    over_all (values t (all_places e)) (length (all_places e)) (omega (arith, places_from-length 0 (size e), few)) (values-along t (all_places e)) (values-integers t h (all_places e)))
+    over_all (values t (all_places e)) (length (all_places e)) (omega (arith, length-places_from 0 (size e), few)) (values-along t (all_places e)) (values-integers t h (all_places e)))

@@ -4,17 +4,20 @@ use Rattle.std.specs.Int.{w128}
 use Rattle.std.proofs.Math.Nat.{mul-le-mul_left}
 use Rattle.std.proofs.lemmas.Int.{ints, to_z-of_z, fits_signed_from_abs, unsigned_abs-mul}
 
-small : (z : ℤ) → FitsSigned w32 z → unsigned_abs z ≤ 2147483648
+pub small : (z : ℤ) → FitsSigned w32 z → unsigned_abs z ≤ 2147483648
 small z h = omega (arith, ints)
 
-wide : (z : ℤ) → FitsSigned w32 z → FitsSigned w64 z
+pub wide : (z : ℤ) → FitsSigned w32 z → FitsSigned w64 z
 wide z h = fits_signed_from_abs w64 z (omega (arith, small z h))
 
-product-small : (k : ℕ) (s : ℤ) → k < 2 ^ 32 → FitsSigned w32 s → unsigned_abs (pos k *ℤ s) ≤ 9223372034707292160
-product-small k s h f =
+product-below : (k : ℕ) (s : ℤ) → FitsSigned w32 s → unsigned_abs (pos k *ℤ s) ≤ k * 2147483648
+product-below k s f =
     let e = unsigned_abs-mul (pos k) s in
     let a : k * unsigned_abs s ≤ k * 2147483648 = mul-le-mul_left k (small s f) in
     omega (arith, e, a)
+
+product-small : (k : ℕ) (s : ℤ) → k < 2 ^ 32 → FitsSigned w32 s → unsigned_abs (pos k *ℤ s) ≤ 9223372034707292160
+product-small k s h f = omega (arith, product-below k s f, h)
 
 sum-fits : (l p : ℤ) → FitsSigned w32 l → unsigned_abs p ≤ 9223372034707292160 → FitsSigned w64 (l +ℤ p)
 sum-fits l p f h = omega (arith, ints)
@@ -38,10 +41,7 @@ wider : (z : ℤ) → FitsSigned w32 z → FitsSigned w128 z
 wider z h = fits_signed_from_abs w128 z (omega (arith, small z h))
 
 product-within : (n : ℕ) (s : ℤ) → n < 2 ^ 64 → FitsSigned w32 s → unsigned_abs (pos n *ℤ s) ≤ 39614081257132168796771975168
-product-within n s h f =
-    let e = unsigned_abs-mul (pos n) s in
-    let a : n * unsigned_abs s ≤ n * 2147483648 = mul-le-mul_left n (small s f) in
-    omega (arith, e, a)
+product-within n s h f = omega (arith, product-below n s f, h)
 
 sum-within : (l p : ℤ) → FitsSigned w32 l → unsigned_abs p ≤ 39614081257132168796771975168 → unsigned_abs (l +ℤ p) ≤ 39614081257132168798919458816
 sum-within l p f h = omega (arith, ints)

@@ -1,11 +1,14 @@
 -- The values of terms, as the code finds them.
-use Rattle.std.proofs.Common.{◌≡◌, refl, sym, ap, ◌∙◌, subst, ℕ, suc, ◌+◌, ◌<◌, length, map, List, [], ◌∷◌, ◌++◌, append_assoc, drop, get_or, All, Option, Some, None, Result, Ok, Err, ℤ}
+use Rattle.std.proofs.Common.{◌≡◌, refl, sym, ap, ◌∙◌, subst, ℕ, ◌+◌, ◌<◌, length, List, [], ◌∷◌, ◌++◌, map, append_assoc, drop, get_or, All, Option, Some, None, Result, Ok, Err, ℤ}
 use Rattle.std.specs.Prelude.{◌/◌}
+use Rattle.std.proofs.lemmas.List.{length-map}
 use Rattle.ws_base.specs.declared.op.BinOp.{BinOp}
 use Rattle.ws_base.specs.declared.op.UnOp.{UnOp}
 use Rattle.ws_base.specs.declared.op.CallWord.{CallWord}
-use Rattle.ws_base.specs.Outcomes.{Staged, ◌>>=◌}
+use Rattle.ws_base.specs.Outcomes.{Staged, ◌>>=◌, rows}
 use Rattle.ws_space.specs.declared.state.ArrayValue.{ArrayValue}
+use Rattle.ws_space.specs.Shapes.{dims, place}
+use Rattle.ws_space.specs.Values.{value_at}
 use Rattle.ws_space.specs.Maps.{unary_map, binary_map, call_map}
 use Rattle.ws_space.specs.Sections.{elements_at, places_at}
 use Rattle.array_meaning.specs.declared.term.Term.{Term}
@@ -18,8 +21,9 @@ use Rattle.term_eval.specs.declared.stop.Stop.TheVariants.{Memory, Failed}
 use Rattle.term_eval.specs.Made.{Stops, Gives, IsAlong}
 use Rattle.term_eval.specs.Limits.{IsSmallTerm, IsSmallArray, IsSmallPick}
 use Rattle.term_eval.specs.Lists as lists
-use Rattle.term_eval.proofs.Along.{Along, is_along, values-along}
+use Rattle.term_eval.proofs.Along.{is_along, values-along}
 use Rattle.term_eval.proofs.Front.{front}
+use Rattle.term_eval.proofs.Made.{each_then}
 use Rattle.term_eval.proofs.Forms.{values_section, values_call, targets_section, small_section, small_call}
 
 -- ---- what comes first, and what it gives
@@ -28,47 +32,66 @@ pub stops_first : {A B : Type 0} (s : Stop) (r : Staged A) (f : A → Staged B) 
 stops_first Memory r f h = tt
 stops_first (Failed t) r f h = ap (λ x. x >>= f) h
 
+-- from the list that the code goes over
+module _ {X A B : Type 0} (made : X → Staged A) (f : A → Staged B) (whole : Staged B) (xs xs' : X) (is : whole ≡ (made xs >>= f)) (same : xs' ≡ xs) where
+  list_is : whole ≡ (made xs' >>= f)
+  list_is = is ∙ ap (λ l. made l >>= f) (sym same)
+
+  list_stops : (s : Stop) → Stops s (made xs') → Stops s whole
+  list_stops s h = subst (Stops s) (sym list_is) (stops_first s (made xs') f h)
+
+  list_value : (cs cs' : A) (answer : Result B Stop) → made xs' ≡ Ok cs → cs' ≡ cs → Gives answer (f cs') → Gives answer whole
+  list_value cs cs' answer h e g = subst (Gives answer) (ap f e ∙ sym (list_is ∙ ap (λ r. r >>= f) h)) g
+
 -- ---- sections
 
+elements_are : (a : ArrayValue) (at : List ℕ) (cs : List (List ℤ)) → elements_at a at cs ≡ (places_at a at cs >>= (λ qs. Ok (map (value_at a.values) qs)))
+elements_are a at cs = each_then (place (dims a.shape)) (value_at a.values) (rows at cs)
+
 module _ (t : Term) (a : ArrayValue) (ps ps' : List Pick) (is : t ≡ Section a ps) (same : ps' ≡ ps) (at : List ℕ) where
-  value_is : values t at ≡ (lists.columns ps' at >>= elements_at a at)
-  value_is = ap (λ u. values u at) is ∙ values_section a ps at ∙ ap (λ p. lists.columns p at >>= elements_at a at) (sym same)
-
-  pub section_stops : (s : Stop) → Stops s (lists.columns ps' at) → Stops s (values t at)
-  section_stops s h = subst (Stops s) (sym value_is) (stops_first s (lists.columns ps' at) (elements_at a at) h)
-
-  pub section_value : (cs cs' : List (List ℤ)) (r : Result (List ℤ) Stop) → lists.columns ps' at ≡ Ok cs → cs' ≡ cs → Gives r (elements_at a at cs') → Gives r (values t at)
-  section_value cs cs' r h e g = subst (Gives r) (ap (elements_at a at) e ∙ sym (value_is ∙ ap (λ x. x >>= elements_at a at) h)) g
-
-  target_is : targets t at ≡ (lists.columns ps' at >>= places_at a at)
-  target_is = ap (λ u. targets u at) is ∙ targets_section a ps at ∙ ap (λ p. lists.columns p at >>= places_at a at) (sym same)
-
-  pub target_stops : (s : Stop) → Stops s (lists.columns ps' at) → Stops s (targets t at)
-  target_stops s h = subst (Stops s) (sym target_is) (stops_first s (lists.columns ps' at) (places_at a at) h)
-
-  pub target_value : (cs cs' : List (List ℤ)) (r : Result (List ℕ) Stop) → lists.columns ps' at ≡ Ok cs → cs' ≡ cs → Gives r (places_at a at cs') → Gives r (targets t at)
-  target_value cs cs' r h e g = subst (Gives r) (ap (places_at a at) e ∙ sym (target_is ∙ ap (λ x. x >>= places_at a at) h)) g
-
   pub picks_small : IsSmallTerm t → All IsSmallPick ps'
   picks_small h = subst (All IsSmallPick) (sym same) (small_section a ps (subst IsSmallTerm is h)).1
 
   pub array_small : IsSmallTerm t → IsSmallArray a
   array_small h = (small_section a ps (subst IsSmallTerm is h)).0
 
+  section_is : values t at ≡ (lists.columns ps at >>= elements_at a at)
+  section_is = ap (λ u. values u at) is ∙ values_section a ps at
+
+  pub section_stops : (s : Stop) → Stops s (lists.columns ps' at) → Stops s (values t at)
+  section_stops = list_stops (λ p. lists.columns p at) (elements_at a at) (values t at) ps ps' section_is same
+
+  -- once there are columns: the places of the elements, and then the elements
+  module _ (cs cs' : List (List ℤ)) (columns_are : lists.columns ps' at ≡ Ok cs) (as_columns : cs' ≡ cs) where
+    from_places : (answer : Result (List ℤ) Stop) → Gives answer (places_at a at cs' >>= (λ qs. Ok (map (value_at a.values) qs))) → Gives answer (values t at)
+    from_places answer g =
+        list_value (λ p. lists.columns p at) (elements_at a at) (values t at) ps ps' section_is same cs cs' answer columns_are as_columns (subst (Gives answer) (sym (elements_are a at cs')) g)
+
+    pub section_stops_later : (s : Stop) → Stops s (places_at a at cs') → Stops s (values t at)
+    section_stops_later s h = from_places (Err s) (stops_first s (places_at a at cs') (λ qs. Ok (map (value_at a.values) qs)) h)
+
+    pub section_value : (qs qs' : List ℕ) (held made : List ℤ) → places_at a at cs' ≡ Ok qs → qs' ≡ qs → held ≡ a.values → made ≡ map (value_at held) qs' → values t at ≡ Ok made
+    section_value qs qs' held made places_are as_places as_held is_made =
+        let listed : made ≡ map (value_at a.values) qs = is_made ∙ ap (λ vs. map (value_at vs) qs') as_held ∙ ap (map (value_at a.values)) as_places in
+        from_places (Ok made) (ap (λ r. r >>= (λ xs. Ok (map (value_at a.values) xs))) places_are ∙ ap Ok (sym listed))
+
+  pub target_stops : (s : Stop) → Stops s (lists.columns ps' at) → Stops s (targets t at)
+  target_stops = list_stops (λ p. lists.columns p at) (places_at a at) (targets t at) ps ps' (ap (λ u. targets u at) is ∙ targets_section a ps at) same
+
+  pub target_value : (cs cs' : List (List ℤ)) (r : Result (List ℕ) Stop) → lists.columns ps' at ≡ Ok cs → cs' ≡ cs → Gives r (places_at a at cs') → Gives r (targets t at)
+  target_value = list_value (λ p. lists.columns p at) (places_at a at) (targets t at) ps ps' (ap (λ u. targets u at) is ∙ targets_section a ps at) same
+
 -- ---- calls
 
 module _ (t : Term) (w : CallWord) (ts ts' : List Term) (is : t ≡ Call w ts) (same : ts' ≡ ts) (at : List ℕ) where
-  call_is : values t at ≡ (lists.all_values ts' at >>= call_map w at)
-  call_is = ap (λ u. values u at) is ∙ values_call w ts at ∙ ap (λ x. lists.all_values x at >>= call_map w at) (sym same)
-
-  pub call_stops : (s : Stop) → Stops s (lists.all_values ts' at) → Stops s (values t at)
-  call_stops s h = subst (Stops s) (sym call_is) (stops_first s (lists.all_values ts' at) (call_map w at) h)
-
-  pub call_value_is : (cs cs' : List (List ℤ)) (r : Result (List ℤ) Stop) → lists.all_values ts' at ≡ Ok cs → cs' ≡ cs → Gives r (call_map w at cs') → Gives r (values t at)
-  call_value_is cs cs' r h e g = subst (Gives r) (ap (call_map w at) e ∙ sym (call_is ∙ ap (λ x. x >>= call_map w at) h)) g
-
   pub arguments_small : IsSmallTerm t → All IsSmallTerm ts'
   arguments_small h = subst (All IsSmallTerm) (sym same) (small_call w ts (subst IsSmallTerm is h))
+
+  pub call_stops : (s : Stop) → Stops s (lists.all_values ts' at) → Stops s (values t at)
+  call_stops = list_stops (λ us. lists.all_values us at) (call_map w at) (values t at) ts ts' (ap (λ u. values u at) is ∙ values_call w ts at) same
+
+  pub call_value_is : (cs cs' : List (List ℤ)) (r : Result (List ℤ) Stop) → lists.all_values ts' at ≡ Ok cs → cs' ≡ cs → Gives r (call_map w at cs') → Gives r (values t at)
+  call_value_is = list_value (λ us. lists.all_values us at) (call_map w at) (values t at) ts ts' (ap (λ u. values u at) is ∙ values_call w ts at) same
 
 -- ---- operators
 
@@ -103,13 +126,9 @@ stops_along_of t at s h = is_along (Err s) (length at) (values t at) h (values-a
 
 -- ---- columns
 
-map-length : {A B : Type 0} (f : A → B) (xs : List A) → length (map f xs) ≡ length xs
-map-length f [] = refl
-map-length f (x ∷ xs) = ap suc (map-length f xs)
-
 pub past-length : (r : Option ℕ) (at : List ℕ) → length (lists.past r at) ≡ length at
 past-length None at = refl
-past-length (Some n) at = map-length (λ p. p / n) at
+past-length (Some n) at = length-map at (λ p. p / n)
 
 made_more : {A : Type 0} (made : List A) (x : A) (r : Staged (List A)) → lists.then_rest made (r >>= (λ xs. Ok (x ∷ xs))) ≡ lists.then_rest (made ++ x ∷ []) r
 made_more made x (Ok xs) = ap Ok (sym (append_assoc made (x ∷ []) xs))

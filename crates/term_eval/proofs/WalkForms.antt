@@ -2,7 +2,6 @@
 use Rattle.std.proofs.Common.{◌≡◌, refl, ap, ℕ, ◌≤◌, false, List, [], ◌∷◌, map, length, drop, All, Ok, append-nil}
 use mathlib.Core.Path.{fun_ext}
 use Rattle.std.proofs.Math.ListN.{drop_of_length-le}
-use Rattle.std.proofs.lemmas.List.Elements.{All-nil, All-cons, All-head, All-tail}
 use Rattle.ws_base.specs.declared.op.CallWord.{CallWord}
 use Rattle.ws_base.specs.Outcomes.{◌>>=◌}
 use Rattle.ws_space.specs.declared.shape.Dim.{Dim}
@@ -20,6 +19,7 @@ use Rattle.ws_types.specs.Operations.{is_inquiry}
 use Rattle.array_meaning.specs.Stage1.{walk, walks, picks, one_pick, allocated, designator, called, value_of}
 use Rattle.term_eval.specs.Limits.{IsSmall, AreSmall, AreSmallSubs, IsSmallSub}
 use Rattle.term_eval.specs.Lists as lists
+use Rattle.term_eval.proofs.Rows.{each_in_row, row_of_each}
 
 -- ---- lists
 
@@ -34,25 +34,13 @@ picks_list w ds [] = refl
 picks_list w [] (s ∷ ss) = refl
 picks_list w (d ∷ ds) (s ∷ ss) = ap (λ r. one_pick w d s >>= (λ p. r >>= (λ ps. Ok (p ∷ ps)))) (picks_list w ds ss)
 
-pub small_exprs : (es : List Expr) → AreSmall (hidden-the_row-Expr-1 es) → All IsSmall es
-unfolding trees_open
-small_exprs [] h = All-nil IsSmall
-small_exprs (e ∷ es) h = All-cons IsSmall e es h.0 (small_exprs es h.1)
-
 pub are_small_exprs : (es : List Expr) → All IsSmall es → AreSmall (hidden-the_row-Expr-1 es)
 unfolding trees_open
-are_small_exprs [] h = tt
-are_small_exprs (e ∷ es) h = (All-head IsSmall e es h, are_small_exprs es (All-tail IsSmall e es h))
-
-pub small_subs : (ss : List Sub) → AreSmallSubs (hidden-the_row-Sub-0 ss) → All IsSmallSub ss
-unfolding trees_open
-small_subs [] h = All-nil IsSmallSub
-small_subs (s ∷ ss) h = All-cons IsSmallSub s ss h.0 (small_subs ss h.1)
+are_small_exprs = row_of_each IsSmall (λ es. AreSmall (hidden-the_row-Expr-1 es)) tt (λ e es h. h)
 
 pub are_small_subs : (ss : List Sub) → All IsSmallSub ss → AreSmallSubs (hidden-the_row-Sub-0 ss)
 unfolding trees_open
-are_small_subs [] h = tt
-are_small_subs (s ∷ ss) h = (All-head IsSmallSub s ss h, are_small_subs ss (All-tail IsSmallSub s ss h))
+are_small_subs = row_of_each IsSmallSub (λ ss. AreSmallSubs (hidden-the_row-Sub-0 ss)) tt (λ s ss h. h)
 
 -- ---- the walk at each form
 
@@ -70,17 +58,21 @@ walk_vector w es = ap (λ r. r >>= (λ ts. Ok (Listed (map value_of ts)))) (walk
 
 -- ---- what is small
 
+each_small : (es : List Expr) → AreSmall (hidden-the_row-Expr-1 es) → All IsSmall es
+unfolding trees_open
+each_small = each_in_row IsSmall (λ fs. AreSmall (hidden-the_row-Expr-1 fs)) (λ f fs k. k)
+
 pub small_part : (x : List ℕ) (ss : List Sub) → IsSmall (Part x ss) → All IsSmallSub ss
 unfolding trees_open
-small_part x ss h = small_subs ss h
+small_part x ss h = each_in_row IsSmallSub (λ rs. AreSmallSubs (hidden-the_row-Sub-0 rs)) (λ r rs k. k) ss h
 
 pub small_call : (word : CallWord) (es : List Expr) → IsSmall (Call word es) → All IsSmall es
 unfolding trees_open
-small_call word es h = small_exprs es h
+small_call word es h = each_small es h
 
 pub small_vector : (es : List Expr) → IsSmall (Vector es) → All IsSmall es
 unfolding trees_open
-small_vector es h = small_exprs es h.1
+small_vector es h = each_small es h.1
 
 -- ---- picks
 

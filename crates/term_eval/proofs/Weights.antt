@@ -1,15 +1,14 @@
 -- How much a term holds: what stands in it weighs less.
-use Rattle.std.proofs.Common.{◌≡◌, refl, sym, ap, ◌∙◌, ℕ, zero, suc, ◌+◌, ◌*◌, ◌<◌, ◌≤◌, List, [], ◌∷◌, length, get_or, arith}
-use Rattle.ws_base.specs.declared.op.BinOp.{BinOp}
-use Rattle.ws_base.specs.declared.op.UnOp.{UnOp}
+use Rattle.std.proofs.Common.{◌≡◌, refl, ap, ◌∙◌, ℕ, suc, ◌+◌, ◌*◌, ◌<◌, List, [], ◌∷◌, length, get_or, arith}
 use Rattle.ws_base.specs.declared.op.CallWord.{CallWord}
 use Rattle.ws_space.specs.declared.state.ArrayValue.{ArrayValue}
 use Rattle.array_meaning.specs.declared.term.Term.{Term}
-use Rattle.array_meaning.specs.declared.term.Term.TheVariants.{Scalar, Listed, Section', Call' as CallOf', Section, Unary, Binary, Call}
+use Rattle.array_meaning.specs.declared.term.Term.TheVariants.{Scalar, Listed, Section', Call' as CallOf', Section, Call}
 use Rattle.array_meaning.specs.declared.term.Pick.{Pick}
 use Rattle.array_meaning.specs.declared.term.Pick.TheVariants as pick
 use Rattle.array_meaning.specs.declared.term.Pick.TheBlock.{hidden-the_row-Pick-0, hidden-the_row-Term-2, Row_of-Term as Terms, end_of-Term as end_terms, more_of-Term as more_terms, Row_of-Pick as Picks, end_of-Pick as end_picks, more_of-Pick as more_picks}
 use Rattle.array_meaning.specs.Terms.{terms_open, unary_term, binary_term}
+use Rattle.term_eval.proofs.Rows.{row_weight, row-within, one-within}
 
 abbrev mutual
   pub weight : Term → ℕ
@@ -33,12 +32,10 @@ abbrev mutual
   pick_weight _ = 0
 
 abbrev pub terms_weight : List Term → ℕ
-terms_weight [] = 0
-terms_weight (t ∷ ts) = weight t + terms_weight ts
+terms_weight = row_weight weight
 
 abbrev pub picks_weight : List Pick → ℕ
-picks_weight [] = 0
-picks_weight (p ∷ ps) = pick_weight p + picks_weight ps
+picks_weight = row_weight pick_weight
 
 terms_list : (ts : List Term) → row_of_terms (hidden-the_row-Term-2 ts) ≡ terms_weight ts
 unfolding terms_open
@@ -61,26 +58,16 @@ call_is w ts = ap suc (terms_list ts)
 -- ---- what the calls go down to
 
 pub of_section : (n : ℕ) (t : Term) (a : ArrayValue) (ps ps' : List Pick) → 2 * weight t ≡ n → t ≡ Section a ps → ps' ≡ ps → 2 * picks_weight ps' + 1 < n
-of_section n t a ps ps' m is same = let e : weight t ≡ suc (picks_weight ps') = ap weight is ∙ section_is a ps ∙ ap (λ l. suc (picks_weight l)) (sym same) in omega (arith, e, m)
+of_section n t a ps ps' m is = row-within pick_weight n (weight t) ps ps' m (ap weight is ∙ section_is a ps)
 
 pub of_call : (n : ℕ) (t : Term) (w : CallWord) (ts ts' : List Term) → 2 * weight t ≡ n → t ≡ Call w ts → ts' ≡ ts → 2 * terms_weight ts' + 1 < n
-of_call n t w ts ts' m is same = let e : weight t ≡ suc (terms_weight ts') = ap weight is ∙ call_is w ts ∙ ap (λ l. suc (terms_weight l)) (sym same) in omega (arith, e, m)
-
-term-within : (ts : List Term) (i : ℕ) (d : Term) → i < length ts → weight (get_or ts i d) ≤ terms_weight ts
-term-within [] i d h = absurd (omega (arith, h))
-term-within (t ∷ ts) zero d h = omega arith
-term-within (t ∷ ts) (suc i) d h = omega (arith, term-within ts i d (omega (arith, h)))
-
-pick-within : (ps : List Pick) (i : ℕ) (d : Pick) → i < length ps → pick_weight (get_or ps i d) ≤ picks_weight ps
-pick-within [] i d h = absurd (omega (arith, h))
-pick-within (p ∷ ps) zero d h = omega arith
-pick-within (p ∷ ps) (suc i) d h = omega (arith, pick-within ps i d (omega (arith, h)))
+of_call n t w ts ts' m is = row-within weight n (weight t) ts ts' m (ap weight is ∙ call_is w ts)
 
 pub of_terms : (n : ℕ) (ts : List Term) (i : ℕ) (t : Term) → 2 * terms_weight ts + 1 ≡ n → i < length ts → t ≡ get_or ts i t → 2 * weight t < n
-of_terms n ts i t m low is = omega (arith, ap weight is, term-within ts i t low, m)
+of_terms = one-within weight
 
 pub of_picks : (n : ℕ) (ps : List Pick) (i : ℕ) (p : Pick) → 2 * picks_weight ps + 1 ≡ n → i < length ps → p ≡ get_or ps i p → 2 * pick_weight p < n
-of_picks n ps i p m low is = omega (arith, ap pick_weight is, pick-within ps i p low, m)
+of_picks = one-within pick_weight
 
 pub of_vector : (n : ℕ) (p : Pick) (t : Term) → 2 * pick_weight p ≡ n → p ≡ pick.Vector t → 2 * weight t < n
 of_vector n p t m is = let e : pick_weight p ≡ suc (weight t) = ap pick_weight is in omega (arith, e, m)

@@ -2,3 +2,4 @@ pub mod Made
 pub mod Limits
 pub mod Lists
 pub mod Targets
+pub mod Words

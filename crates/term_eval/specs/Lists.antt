@@ -5,6 +5,8 @@ use Rattle.ws_base.specs.declared.op.CallWord.{CallWord}
 use Rattle.ws_base.specs.Numbers.{Exact}
 use Rattle.ws_base.specs.Outcomes.{Staged, ◌>>=◌}
 use Rattle.ws_space.specs.declared.shape.Dim.{Dim}
+use Rattle.ws_space.specs.declared.state.VarState.{VarState}
+use Rattle.ws_space.specs.declared.state.VarState.TheVariants as state
 use Rattle.ws_space.specs.Shapes.{Extents, count, dims, place}
 use Rattle.ws_space.specs.Values.{Name, state_of, held, value_at}
 use Rattle.ws_space.specs.Maps.{everywhere_same}
@@ -74,6 +76,12 @@ whole_of w x = do
 -- an array's element with these subscripts
 abbrev pub element_in : List Dim → List ℤ → List ℤ → Exact
 element_in ds xs is = place ds is >>= (λ p. Ok (value_at xs p))
+
+-- the elements that a variable holds, where it is an array
+abbrev pub values_in : VarState → List ℤ
+values_in (state.Scalar z) = []
+values_in (state.Array a) = a.values
+values_in (state.Unallocated r) = []
 
 -- ---- stage 2
 

@@ -8,8 +8,7 @@ ghost use Rattle.ws_space.specs.Shapes.{dims};
 ghost use Rattle.ws_space.specs.Values as values;
 ghost use Rattle.ws_space.specs.WellFormed.{elements};
 ghost use Rattle.array_meaning.specs.Stage1 as stage1;
-ghost use Rattle.term_eval.specs.Made.{Gives, Stops};
-ghost use Rattle.term_eval.specs.Limits.{IsSmallArray};
+ghost use Rattle.term_eval.specs.Words.{Gives, IsSmallArray, Stops};
 
 use crate::names::{constant_of, state_of};
 use crate::operand_shapes::{count, extents};

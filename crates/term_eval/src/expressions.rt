@@ -7,8 +7,7 @@ ghost use Rattle.ws_space.specs.Sections as sections;
 ghost use Rattle.ws_types.specs.Sections as typing;
 ghost use Rattle.array_meaning.specs.Forall as forall;
 ghost use Rattle.array_meaning.specs.Stage1 as stage1;
-ghost use Rattle.term_eval.specs.Made.{Gives};
-ghost use Rattle.term_eval.specs.Limits.{IsSmall, IsSmallSub, IsSmallTerm, IsWorld};
+ghost use Rattle.term_eval.specs.Words.{Gives, IsSmall, IsSmallSub, IsSmallTerm, IsWorld};
 ghost use Rattle.term_eval.specs.Lists as lists;
 
 use crate::designators::{designator, named};

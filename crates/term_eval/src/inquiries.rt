@@ -2,13 +2,12 @@
 
 ghost use Rattle.std.specs.Prelude.{◌≡◌, ◌≤◌};
 ghost use Rattle.ws_base.specs.Outcomes.{scalar_of};
+ghost use Rattle.ws_space.specs.{Shapes.dims, WellFormed.elements};
 ghost use Rattle.ws_space.specs.Inquiries as inquiries;
-ghost use Rattle.ws_space.specs.Shapes as shapes;
 ghost use Rattle.ws_space.specs.Values as values;
 ghost use Rattle.ws_types.specs.Operations as operations;
 ghost use Rattle.array_meaning.specs.Stage1 as stage1;
-ghost use Rattle.ws_space.specs.WellFormed.{elements};
-ghost use Rattle.term_eval.specs.Limits.{IsWorld};
+ghost use Rattle.term_eval.specs.Words.{IsWorld};
 ghost use Rattle.term_eval.specs.Lists as lists;
 
 use crate::names::{allocated, state_of};
@@ -35,7 +34,7 @@ pub fn is_inquiry(word: CallWord) -> bool
 
 /// A dimension of a shape, from 1. One that the shape has not got has bounds 1 and 1.
 fn dim_at(shape: &Shape, k: u32) -> Dim
-    ensures { result ≡ inquiries.dim_at (shapes.dims shape.now) k }
+    ensures { result ≡ inquiries.dim_at (dims shape.now) k }
 {
     match (shape.rank, k) {
         (0, _) => UNUSED,
@@ -85,7 +84,7 @@ fn dimension_in(es: &[Expr]) -> Option<u32>
 
 fn size_value(shape: &Shape, dimension: Option<u32>) -> Result<i64, FaultName>
     requires { elements shape.now ≤ ELEMENT_LIMIT }
-    ensures { result ≡ inquiries.size_value (shapes.dims shape.now) dimension }
+    ensures { result ≡ inquiries.size_value (dims shape.now) dimension }
 {
     match dimension {
         None => in_kind(i128::from(size(shape))),
@@ -94,7 +93,7 @@ fn size_value(shape: &Shape, dimension: Option<u32>) -> Result<i64, FaultName>
 }
 
 fn bound_at(shape: &Shape, dimension: Option<u32>) -> Dim
-    ensures { result ≡ inquiries.dim_at (shapes.dims shape.now) (stage1.dimension dimension) }
+    ensures { result ≡ inquiries.dim_at (dims shape.now) (stage1.dimension dimension) }
 {
     match dimension {
         None => dim_at(shape, 1),

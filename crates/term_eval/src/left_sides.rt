@@ -4,10 +4,8 @@ ghost use Rattle.std.specs.Prelude.{◌≡◌, IfOk, Some};
 ghost use Rattle.std.specs.List.{All};
 ghost use Rattle.ws_space.specs.Values as space;
 ghost use Rattle.array_meaning.specs.Assign as assign;
-ghost use Rattle.term_eval.specs.Made.{Gives};
-ghost use Rattle.term_eval.specs.Limits.{IsSmall, IsSmallSub, IsWorld};
+ghost use Rattle.term_eval.specs.Words.{Gives, GivesTarget, IsSmall, IsSmallSub, IsSmallTarget, IsWorld};
 ghost use Rattle.term_eval.specs.Lists as lists;
-ghost use Rattle.term_eval.specs.Targets.{GivesTarget, IsSmallTarget};
 
 use crate::designators::{copy_of, selected, whole_array};
 use crate::expressions::picks;

@@ -1,5 +1,6 @@
 //! The plain evaluator: it computes what the definitions of a program's meaning say, step by step. Here are the expressions of a step:
 //! its first stage (`walk`, `left_side`), its conformance (`operands`, `agreed`) and its second stage (`values`, `targets`).
+//! Read `specs/Limits.antt` first (what keeps each number within its type), then `specs/Made.antt` (what a computation gives).
 #![tactic(auto)]
 
 mod designators;

@@ -5,7 +5,7 @@ ghost use Rattle.std.specs.Prelude.{◌≡◌, ◌≤◌, ◌<◌, ◌^◌, map,
 ghost use Rattle.std.specs.List.{All};
 ghost use Rattle.ws_base.specs.Outcomes.{each};
 ghost use Rattle.ws_space.specs.Maps as maps;
-ghost use Rattle.term_eval.specs.Made.{Gives, Stops, keeps};
+ghost use Rattle.term_eval.specs.Words.{Gives, keeps, Stops};
 
 use crate::stop::Stop;
 use sqlite_items::Items;

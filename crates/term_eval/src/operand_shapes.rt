@@ -5,7 +5,7 @@ ghost use Rattle.std.specs.List.{All};
 ghost use Rattle.ws_space.specs.Shapes as shapes;
 ghost use Rattle.array_meaning.specs.Stage1 as stage1;
 ghost use Rattle.array_meaning.specs.Stage2 as stage2;
-ghost use Rattle.term_eval.specs.Limits.{IsFew, IsSmallTerm};
+ghost use Rattle.term_eval.specs.Words.{IsFew, IsSmallTerm};
 ghost use Rattle.term_eval.specs.Lists as lists;
 
 use crate::shapes::Extents;

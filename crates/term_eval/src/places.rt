@@ -1,6 +1,6 @@
 //! The place of an element (Fortran 2018, 9.5.3.3), and the elements at columns of subscripts.
 
-ghost use Rattle.std.specs.Prelude.{◌≡◌, ◌≤◌, ◌<◌, ◌+◌, ◌*◌, ◌^◌, length, true, false, IfOk, MatchOption};
+ghost use Rattle.std.specs.Prelude.{◌≡◌, ◌≤◌, ◌<◌, ◌+◌, ◌*◌, ◌^◌, length, map, true, false, IfOk, MatchOption};
 ghost use Rattle.std.specs.List.{All};
 ghost use Rattle.ws_base.specs.Outcomes.{each, rows};
 ghost use Rattle.ws_space.specs.Shapes as spec;
@@ -9,16 +9,15 @@ ghost use Rattle.ws_space.specs.Values as space;
 ghost use Rattle.ws_space.specs.Sections as sections;
 ghost use Rattle.ws_space.specs.WellFormed.{elements};
 ghost use Rattle.array_meaning.specs.Forall.{element_of, place_in};
-ghost use Rattle.term_eval.specs.Made.{Gives};
-ghost use Rattle.term_eval.specs.Limits.{IsFew, IsVar};
-ghost use Rattle.term_eval.specs.Lists.{element_in};
+ghost use Rattle.term_eval.specs.Words.{Gives, IsFew, IsVar};
+ghost use Rattle.term_eval.specs.Lists.{element_in, values_in};
 
 use crate::maps::{fails, keep, row};
 use crate::names::allocated;
 use crate::shapes::dims_of;
 use crate::stop::Stop;
 use sqlite_items::Items;
-use std::alloc::Global;
+use std::alloc::{AllocError, Global};
 use ws_base::FaultName;
 use ws_space::{ArrayValue, Dim, ELEMENT_LIMIT, Var};
 
@@ -100,33 +99,18 @@ pub fn element(dims: &[Dim], values: &[i64], subscripts: &[i64]) -> Result<i64, 
     Ok(value_at(values, place))
 }
 
-/// The elements with the subscripts of each row of the columns, of which there is one for each dimension.
-pub fn elements_at(
-    alloc: Global,
-    array: &ArrayValue,
-    places: &[u32],
-    columns: &[Items<i64>],
-) -> Result<Items<i64>, Stop>
-    requires array { elements array.now.shape ≤ ELEMENT_LIMIT }
-    requires few { length places.now ≤ 2 ^ 32 }
-    requires columns { All (λ column. length column ≡ length places.now) columns.now }
-    ensures { Gives result (sections.elements_at array.now places.now columns.now) }
+/// The values at these places, and 0 past the end.
+pub fn listed(alloc: Global, values: &[i64], places: &[u32]) -> Result<Items<i64>, AllocError>
+    ensures { IfOk result (λ made. made ≡ map (space.value_at values.now) places.now) }
 {
-    let dims = dims_of(alloc, &array.shape)?;
     let mut made = Items::new(alloc);
-    for i in 0..places.len() {
-        let subscripts = row(alloc, columns, i)?;
-        let value = element(
-            dims.as_slice(),
-            array.values.as_slice(),
-            subscripts.as_slice(),
-        );
-        keep(&mut made, value)?;
+    for place in places {
+        made.push(value_at(values, *place))?;
     }
     Ok(made)
 }
 
-/// The places of the elements with the subscripts of each row of the columns.
+/// The places of the elements with the subscripts of each row of the columns, of which there is one for each dimension.
 pub fn places_at(
     alloc: Global,
     array: &ArrayValue,
@@ -147,26 +131,23 @@ pub fn places_at(
     Ok(made)
 }
 
-/// The elements of a variable in a FORALL, one for each combination. Unallocated where it is no array.
-pub fn elements_over(
+/// The elements that stand at these places of a variable. One that is no array has none.
+#[tactic(auto, using(crate::proofs::Variables::values_held, crate::proofs::Variables::nothing_held))]
+fn elements_of(
     alloc: Global,
     vars: &[Var],
     name: &str,
     places: &[u32],
-    columns: &[Items<i64>],
-) -> Result<Items<i64>, Stop>
-    requires vars { All IsVar vars.now }
-    requires few { length places.now ≤ 2 ^ 32 }
-    requires columns { All (λ column. length column ≡ length places.now) columns.now }
-    ensures { Gives result (each (element_of (space.state_of vars.now name.now)) (rows places.now columns.now)) }
+) -> Result<Items<i64>, AllocError>
+    ensures { IfOk result (λ made. made ≡ map (space.value_at (values_in (space.state_of vars.now name.now))) places.now) }
 {
     match allocated(vars, name) {
-        Ok(array) => elements_at(alloc, array, places, columns),
-        Err(fault) => fails(alloc, fault, places),
+        Ok(array) => listed(alloc, array.values.as_slice(), places),
+        Err(_) => listed(alloc, &[], places),
     }
 }
 
-/// The places of the elements of a variable that a FORALL assigns to, one for each combination.
+/// The places of the elements of a variable in a FORALL, one for each combination. Unallocated where it is no array.
 pub fn targets_over(
     alloc: Global,
     vars: &[Var],
@@ -183,4 +164,21 @@ pub fn targets_over(
         Ok(array) => places_at(alloc, array, places, columns),
         Err(fault) => fails(alloc, fault, places),
     }
+}
+
+/// The elements of a variable in a FORALL, one for each combination. Unallocated where it is no array.
+pub fn elements_over(
+    alloc: Global,
+    vars: &[Var],
+    name: &str,
+    places: &[u32],
+    columns: &[Items<i64>],
+) -> Result<Items<i64>, Stop>
+    requires vars { All IsVar vars.now }
+    requires few { length places.now ≤ 2 ^ 32 }
+    requires columns { All (λ column. length column ≡ length places.now) columns.now }
+    ensures { Gives result (each (element_of (space.state_of vars.now name.now)) (rows places.now columns.now)) }
+{
+    let targets = targets_over(alloc, vars, name, places, columns)?;
+    Ok(elements_of(alloc, vars, name, targets.as_slice())?)
 }

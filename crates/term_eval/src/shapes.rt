@@ -3,8 +3,7 @@
 ghost use Rattle.std.specs.Prelude.{◌≡◌, ◌≤◌, ◌<◌, ◌∷◌, IfOk, nat_lt};
 ghost use Rattle.std.specs.List.{All};
 ghost use Rattle.ws_space.specs.Shapes as spec;
-ghost use Rattle.term_eval.specs.Made.{Gives};
-ghost use Rattle.term_eval.specs.Limits.{IsFew};
+ghost use Rattle.term_eval.specs.Words.{Gives, IsFew};
 
 use crate::stop::Stop;
 use sqlite_items::Items;

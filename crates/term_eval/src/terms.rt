@@ -1,19 +1,17 @@
 //! The second stage of a step: each operation of rank above 0 as one map over all active places, operands before operators.
 
-ghost use Rattle.std.specs.Prelude.{◌≡◌, ◌≤◌, ◌<◌, ◌^◌, ◌/◌, ◌%◌, length, map, IfOk, IfSome};
+ghost use Rattle.std.specs.Prelude.{◌≡◌, ◌≤◌, ◌<◌, ◌^◌, ◌/◌, ◌%◌, length, IfOk, IfSome};
 ghost use Rattle.std.specs.List.{All};
 ghost use Rattle.ws_base.specs.Outcomes as outcomes;
 ghost use Rattle.ws_space.specs.Sections as sections;
 ghost use Rattle.ws_space.specs.Subscripts as subscripts;
-ghost use Rattle.ws_space.specs.Values as space;
 ghost use Rattle.array_meaning.specs.Stage2 as stage2;
-ghost use Rattle.term_eval.specs.Made.{Gives, IsAlong};
-ghost use Rattle.term_eval.specs.Limits.{IsSmallPick, IsSmallTerm};
+ghost use Rattle.term_eval.specs.Words.{Gives, IsAlong, IsSmallPick, IsSmallTerm};
 ghost use Rattle.term_eval.specs.Lists as lists;
 
 use crate::maps::{binary_map, call_map, same_value, unary_map};
 use crate::operand_shapes::{count, operands, reach, vector_extent};
-use crate::places::{elements_at, places_at, value_at};
+use crate::places::{listed, places_at};
 use crate::shapes::{agreed, all_places};
 use crate::stop::Stop;
 use array_meaning::{Pick, Term};
@@ -109,16 +107,6 @@ fn full_column(alloc: Global, dim: Dim, places: &[u32]) -> Result<Items<i64>, Al
     Ok(column)
 }
 
-fn listed(alloc: Global, values: &[i64], places: &[u32]) -> Result<Items<i64>, AllocError>
-    ensures { IfOk result (λ made. made ≡ map (space.value_at values.now) places.now) }
-{
-    let mut made = Items::new(alloc);
-    for place in places {
-        made.push(value_at(values, *place))?;
-    }
-    Ok(made)
-}
-
 // ---- values
 
 /// The values at these places of the term's shape. A fault's element is the place in the list.
@@ -135,7 +123,8 @@ pub fn values(alloc: Global, t: &Term, places: &[u32]) -> Result<Items<i64>, Sto
         Term::Listed(values) => Ok(listed(alloc, values.as_slice(), places)?),
         Term::Section(array, picks) => {
             let columns = columns(alloc, picks.as_slice(), places)?;
-            elements_at(alloc, array, places, columns.as_slice())
+            let selected = places_at(alloc, array, places, columns.as_slice())?;
+            Ok(listed(alloc, array.values.as_slice(), selected.as_slice())?)
         }
         Term::Unary(op, t) => {
             let operand = values(alloc, t.get(), places)?;

@@ -1,31 +1,19 @@
-use Rattle.std.proofs.Common.{[], sym, ap, ◌∙◌, arith, rules}
+use Rattle.std.proofs.Common.{◌∙◌, arith, rules}
 use Rattle.ws_base.specs.Numbers.{call_value, default_half}
-use Rattle.ws_base.specs.Outcomes.{rows}
-use Rattle.term_eval.proofs.Columns.{rows-length, rows-at}
-use Rattle.term_eval.proofs.Made.{keeps-length, one_more, stops_at, all_made}
+use Rattle.term_eval.proofs.Made.{keeps-length}
+use Rattle.term_eval.proofs.RowLoops.{row_kept, row_stops, rows_made}
 use Rattle.term_eval.proofs.maps.call_map.Goals as goal
 
 pub returns-in_err-keep : goal.returns-in_err-keep
 returns-in_err-keep c =
-    let f = call_value default_half c.args.word in
-    let count = rows-length c.args.places.now c.args.columns.now c.requires.columns in
-    let row = rows-at c.args.places.now c.args.columns.now c.loop-i.i [] c.requires.columns c.loop-i-test.true in
-    let value = c.call_value.ensures ∙ ap f (c.as_slice.ensures ∙ c.in_ok-values.ensures ∙ sym row) in
-    let stops = stops_at f (rows c.args.places.now c.args.columns.now) c.loop-i.i [] c.call_value.result c.loop-i.made c.in_err-keep.field-0.0 (omega (arith, count)) value c.in_err-keep.ensures.err c.loop-i.invariant.same in
+    let stops = row_stops (call_value default_half c.args.word) c.args.places.now c.args.columns.now c.requires.columns c.loop-i.i c.call_value.result c.as_slice.result.now c.call_value.ensures (c.as_slice.ensures ∙ c.in_ok-values.ensures) c.loop-i.made c.loop-i-test.true c.in_err-keep.field-0.0 c.in_err-keep.ensures.err c.loop-i.invariant.same in
     search (rules, stops)
 
 pub loop-i-preserved : goal.loop-i-preserved
-loop-i-preserved c =
-    let f = call_value default_half c.args.word in
-    let count = rows-length c.args.places.now c.args.columns.now c.requires.columns in
-    let row = rows-at c.args.places.now c.args.columns.now c.loop-i.i [] c.requires.columns c.loop-i-test.true in
-    let value = c.call_value.ensures ∙ ap f (c.as_slice.ensures ∙ c.in_ok-values.ensures ∙ sym row) in
-    record {
-      as_many = let more = keeps-length c.call_value.result c.loop-i.made c.keep.new.made c.in_ok-keep.ensures.ok in omega arith;
-      same = one_more f (rows c.args.places.now c.args.columns.now) c.loop-i.i [] c.call_value.result c.loop-i.made c.keep.new.made (omega (arith, count)) value c.in_ok-keep.ensures.ok c.loop-i.invariant.same;
-    }
+loop-i-preserved c = record {
+  as_many = let more = keeps-length c.call_value.result c.loop-i.made c.keep.new.made c.in_ok-keep.ensures.ok in omega arith;
+  same = row_kept (call_value default_half c.args.word) c.args.places.now c.args.columns.now c.requires.columns c.loop-i.i c.call_value.result c.as_slice.result.now c.call_value.ensures (c.as_slice.ensures ∙ c.in_ok-values.ensures) c.loop-i.made c.loop-i-test.true c.keep.new.made c.in_ok-keep.ensures.ok c.loop-i.invariant.same;
+}
 
 pub returns : goal.returns
-returns c =
-    let count = rows-length c.args.places.now c.args.columns.now c.requires.columns in
-    all_made (call_value default_half c.args.word) (rows c.args.places.now c.args.columns.now) c.loop-i.i c.loop-i.made (omega (arith, count)) c.loop-i.invariant.same
+returns c = rows_made (call_value default_half c.args.word) c.args.places.now c.args.columns.now c.requires.columns c.loop-i.i c.loop-i.made (omega arith) c.loop-i.invariant.same

@@ -4,44 +4,39 @@ use Rattle.term_eval.specs.Lists as lists
 use Rattle.term_eval.proofs.Along.{all_along, list-columns-along, list-values-along}
 use Rattle.term_eval.specs.Limits.{IsSmallTerm, IsSmallPick}
 use Rattle.term_eval.proofs.Weights.{of_section, of_call, of_terms, of_picks}
-use Rattle.term_eval.proofs.TermValues.{past-length, next_column, section_stops, section_value, picks_small, arguments_small, call_stops, call_value_is, unary_value_is, binary_value_is, along_of, stops_along_of}
+use Rattle.term_eval.proofs.TermValues.{past-length, next_column, section_stops, section_stops_later, section_value, picks_small, arguments_small, call_stops, call_value_is, unary_value_is, binary_value_is, along_of, stops_along_of}
 use Rattle.term_eval.proofs.terms.+valuing.Goals as goal
 
-pub values-returns-in_err-columns-in-Section-clause-value : goal.values-returns-in_err-columns-in-Section-clause-value
-values-returns-in_err-columns-in-Section-clause-value t c =
+pub values-returns-in_err-columns-in-Section : goal.values-returns-in_err-columns-in-Section
+values-returns-in_err-columns-in-Section t c =
     let s = section_stops c.args.t.now c.in-Section.array c.in-Section.picks c.as_slice-in-Section.result.now c.in-Section.is c.as_slice-in-Section.ensures c.args.places.now c.in_err-columns-in-Section.field-0.0 c.in_err-columns-in-Section.ensures.value in
-    search (rules, s)
+    let a = stops_along_of c.args.t.now c.args.places.now c.in_err-columns-in-Section.field-0.0 s in
+    record { value = search (rules, s); along = search (rules, a) }
 
-pub values-returns-in_err-columns-in-Section-clause-along : goal.values-returns-in_err-columns-in-Section-clause-along
-values-returns-in_err-columns-in-Section-clause-along t c =
-    let s = stops_along_of c.args.t.now c.args.places.now c.in_err-columns-in-Section.field-0.0 (section_stops c.args.t.now c.in-Section.array c.in-Section.picks c.as_slice-in-Section.result.now c.in-Section.is c.as_slice-in-Section.ensures c.args.places.now c.in_err-columns-in-Section.field-0.0 c.in_err-columns-in-Section.ensures.value) in
-    search (rules, s)
-
-pub values-returns-in_err-columns-in-Call-clause-value : goal.values-returns-in_err-columns-in-Call-clause-value
-values-returns-in_err-columns-in-Call-clause-value t c =
+pub values-returns-in_err-columns-in-Call : goal.values-returns-in_err-columns-in-Call
+values-returns-in_err-columns-in-Call t c =
     let s = call_stops c.args.t.now c.in-Call.word c.in-Call.ts c.as_slice-in-Call.result.now c.in-Call.is c.as_slice-in-Call.ensures c.args.places.now c.in_err-columns-in-Call.field-0.0 c.in_err-columns-in-Call.ensures.value in
-    search (rules, s)
+    let a = stops_along_of c.args.t.now c.args.places.now c.in_err-columns-in-Call.field-0.0 s in
+    record { value = search (rules, s); along = search (rules, a) }
 
-pub values-returns-in_err-columns-in-Call-clause-along : goal.values-returns-in_err-columns-in-Call-clause-along
-values-returns-in_err-columns-in-Call-clause-along t c =
-    let s = stops_along_of c.args.t.now c.args.places.now c.in_err-columns-in-Call.field-0.0 (call_stops c.args.t.now c.in-Call.word c.in-Call.ts c.as_slice-in-Call.result.now c.in-Call.is c.as_slice-in-Call.ensures c.args.places.now c.in_err-columns-in-Call.field-0.0 c.in_err-columns-in-Call.ensures.value) in
-    search (rules, s)
+pub values-returns-in_err-selected-in-Section : goal.values-returns-in_err-selected-in-Section
+values-returns-in_err-selected-in-Section t c =
+    let s = section_stops_later c.args.t.now c.in-Section.array c.in-Section.picks c.as_slice-in-Section.result.now c.in-Section.is c.as_slice-in-Section.ensures c.args.places.now c.in_ok-columns-in-Section.columns c.as_slice-in-Section-2.result.now c.in_ok-columns-in-Section.ensures.value c.as_slice-in-Section-2.ensures c.in_err-selected-in-Section.field-0.0 c.in_err-selected-in-Section.ensures in
+    let a = stops_along_of c.args.t.now c.args.places.now c.in_err-selected-in-Section.field-0.0 s in
+    record { value = search (rules, s); along = search (rules, a) }
 
-pub values-returns-in_ok-columns-in-Section-clause-value : goal.values-returns-in_ok-columns-in-Section-clause-value
-values-returns-in_ok-columns-in-Section-clause-value t c =
-    section_value c.args.t.now c.in-Section.array c.in-Section.picks c.as_slice-in-Section.result.now c.in-Section.is c.as_slice-in-Section.ensures c.args.places.now c.in_ok-columns-in-Section.columns c.as_slice-in-Section-2.result.now c.elements_at.result c.in_ok-columns-in-Section.ensures.value c.as_slice-in-Section-2.ensures c.elements_at.ensures
+pub values-returns-in_ok-listed-in-Section : goal.values-returns-in_ok-listed-in-Section
+values-returns-in_ok-listed-in-Section t c =
+    let v =
+    section_value c.args.t.now c.in-Section.array c.in-Section.picks c.as_slice-in-Section.result.now c.in-Section.is c.as_slice-in-Section.ensures c.args.places.now c.in_ok-columns-in-Section.columns c.as_slice-in-Section-2.result.now c.in_ok-columns-in-Section.ensures.value c.as_slice-in-Section-2.ensures
+    c.in_ok-selected-in-Section.selected c.as_slice-in-Section-4.result.now c.as_slice-in-Section-3.result.now c.in_ok-listed-in-Section.field-0 c.in_ok-selected-in-Section.ensures c.as_slice-in-Section-4.ensures c.as_slice-in-Section-3.ensures c.in_ok-listed-in-Section.ensures in
+    record { value = v; along = along_of c.args.t.now c.args.places.now (Ok c.in_ok-listed-in-Section.field-0) v }
 
-pub values-returns-in_ok-columns-in-Section-clause-along : goal.values-returns-in_ok-columns-in-Section-clause-along
-values-returns-in_ok-columns-in-Section-clause-along t c =
-    along_of c.args.t.now c.args.places.now c.elements_at.result (section_value c.args.t.now c.in-Section.array c.in-Section.picks c.as_slice-in-Section.result.now c.in-Section.is c.as_slice-in-Section.ensures c.args.places.now c.in_ok-columns-in-Section.columns c.as_slice-in-Section-2.result.now c.elements_at.result c.in_ok-columns-in-Section.ensures.value c.as_slice-in-Section-2.ensures c.elements_at.ensures)
-
-pub values-returns-in_ok-columns-in-Call-clause-value : goal.values-returns-in_ok-columns-in-Call-clause-value
-values-returns-in_ok-columns-in-Call-clause-value t c =
-    call_value_is c.args.t.now c.in-Call.word c.in-Call.ts c.as_slice-in-Call.result.now c.in-Call.is c.as_slice-in-Call.ensures c.args.places.now c.in_ok-columns-in-Call.columns c.as_slice-in-Call-2.result.now c.call_map.result c.in_ok-columns-in-Call.ensures.value c.as_slice-in-Call-2.ensures c.call_map.ensures
-
-pub values-returns-in_ok-columns-in-Call-clause-along : goal.values-returns-in_ok-columns-in-Call-clause-along
-values-returns-in_ok-columns-in-Call-clause-along t c =
-    along_of c.args.t.now c.args.places.now c.call_map.result (call_value_is c.args.t.now c.in-Call.word c.in-Call.ts c.as_slice-in-Call.result.now c.in-Call.is c.as_slice-in-Call.ensures c.args.places.now c.in_ok-columns-in-Call.columns c.as_slice-in-Call-2.result.now c.call_map.result c.in_ok-columns-in-Call.ensures.value c.as_slice-in-Call-2.ensures c.call_map.ensures)
+pub values-returns-in_ok-columns-in-Call : goal.values-returns-in_ok-columns-in-Call
+values-returns-in_ok-columns-in-Call t c =
+    let v =
+    call_value_is c.args.t.now c.in-Call.word c.in-Call.ts c.as_slice-in-Call.result.now c.in-Call.is c.as_slice-in-Call.ensures c.args.places.now c.in_ok-columns-in-Call.columns c.as_slice-in-Call-2.result.now c.call_map.result c.in_ok-columns-in-Call.ensures.value c.as_slice-in-Call-2.ensures c.call_map.ensures in
+    record { value = v; along = along_of c.args.t.now c.args.places.now c.call_map.result v }
 
 pub values-returns-in_ok-operand-in-Unary-clause-along : goal.values-returns-in_ok-operand-in-Unary-clause-along
 values-returns-in_ok-operand-in-Unary-clause-along t c =
