@@ -1,4 +1,5 @@
 //! The plain evaluator: it computes what the definitions of a program's meaning say, statement by statement.
+//! Read `specs/Machine.antt` first (a machine as the state of the meaning, and what a run makes of it).
 #![tactic(auto)]
 
 mod allocation;

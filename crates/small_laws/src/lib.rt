@@ -1,4 +1,5 @@
 //! Laws of accepted programs.
+//! Read `specs/Laws.antt` first (that the numbers of every accepted program fit).
 #![tactic(auto)]
 
 mod laws;
