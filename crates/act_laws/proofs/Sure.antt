@@ -1,9 +1,7 @@
 -- Ops that give a number at every place.
-use Rattle.std.proofs.Common.{◌≡◌, arith, inl, refl, sym, ap, ◌∙◌, subst, ℕ, ◌<◌, List, [], ◌∷◌, length, None, Ok, ℤ, pos, ◌<ℤ◌}
-use Rattle.ws_base.specs.Outcomes.{Staged}
+use Rattle.std.proofs.Common.{◌≡◌, arith, inl, refl, sym, ap, ◌∙◌, subst, ℕ, List, [], ◌∷◌, None, Ok, ℤ, pos, ◌<ℤ◌}
 use Rattle.phase_ops.specs.declared.phase.Micro.{Micro}
 use Rattle.phase_ops.specs.Phases.{looks, divisors}
-use Rattle.phase_ops.specs.Phases as phase
 use Rattle.phase_ops.specs.Free.{In}
 use Rattle.act_laws.specs.Together.{Files, Scene, number_in, gives_at, with_ops, stop_at, Level, Follows, well}
 use Rattle.act_laws.specs.Seats.{Has}

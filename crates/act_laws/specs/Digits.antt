@@ -1,6 +1,5 @@
 -- Where a place stands in each dimension of a shape.
-use Rattle.std.specs.Prelude.{◌≡◌, ℕ, ◌+◌, ◌/◌, ◌%◌, ◌<◌, List, [], ◌∷◌, Ok, ℤ, pos}
-use Rattle.ws_base.specs.Outcomes.{Staged}
+use Rattle.std.specs.Prelude.{◌≡◌, ℕ, ◌+◌, ◌/◌, ◌%◌, ◌<◌, List, [], ◌∷◌, pos}
 use Rattle.ws_space.specs.Shapes.{Extents, size}
 use Rattle.phase_ops.specs.declared.phase.Source.{Source}
 use Rattle.phase_ops.specs.declared.phase.Source.TheVariants.{Fixed}

@@ -1,5 +1,5 @@
 -- Ops whose registers are words.
-use Rattle.std.specs.Prelude.{◌≡◌, ℕ, ◌<◌, List, [], ◌∷◌, ℤ, pos, ◌<ℤ◌, FitsSigned, slice_index}
+use Rattle.std.specs.Prelude.{ℕ, ◌<◌, List, [], ◌∷◌, ℤ, pos, ◌<ℤ◌, FitsSigned, slice_index}
 use Rattle.std.specs.Int.{w64}
 use Rattle.phase_ops.specs.declared.phase.Micro.{Micro}
 use Rattle.phase_ops.specs.declared.phase.Micro.TheVariants as micro

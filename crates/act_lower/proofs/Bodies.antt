@@ -1,5 +1,5 @@
 -- Bodies, what was left for stage 2, and whole values.
-use Rattle.std.proofs.Common.{◌≡◌, sym, subst, ℕ, suc, ◌+◌, Bool, true, false, if◌then◌else◌, List, [], ◌∷◌, ◌++◌, length, Ok, ℤ}
+use Rattle.std.proofs.Common.{sym, subst, ℕ, suc, ◌+◌, Bool, true, false, if◌then◌else◌, List, [], ◌∷◌, ◌++◌, length, Ok}
 use Rattle.ws_base.specs.Outcomes.{Staged, ◌>>=◌}
 use Rattle.phase_ops.specs.Free.{In}
 use Rattle.hlfir_ops.specs.declared.op.ValueId.{ValueId}

@@ -1,24 +1,18 @@
 -- Operands in registers.
-use Rattle.std.proofs.Common.{◌≡◌, arith, inl, inr, refl, sym, ap, ◌∙◌, subst, ℕ, ◌+◌, ◌<◌, List, [], ◌∷◌, map, length, Ok, ℤ, pos, ◌+ℤ◌, ◌*ℤ◌, ◌<ℤ◌}
-use Rattle.std.proofs.lemmas.Int.{ints}
-use Rattle.ws_base.specs.Numbers.{Exact}
-use Rattle.ws_base.specs.Outcomes.{Staged, each}
+use Rattle.std.proofs.Common.{◌≡◌, inl, inr, refl, sym, ◌∙◌, subst, ℕ, ◌+◌, ◌<◌, List, [], ◌∷◌, map, length, Ok, ℤ}
 use Rattle.phase_ops.specs.declared.phase.Micro.{Micro}
-use Rattle.phase_ops.specs.declared.phase.Micro.TheVariants as micro
 use Rattle.phase_ops.specs.Phases.{Cells, cell_value, cell_of, address, looks}
 use Rattle.phase_ops.specs.Phases as phase
 use Rattle.phase_ops.specs.Free.{In}
 use Rattle.hlfir_ops.specs.declared.op.ValueId.{ValueId}
 use Rattle.hlfir_meaning.specs.Environments.{Environment}
 use Rattle.hlfir_meaning.specs.Places.{column_at, columns_of}
-use Rattle.act_laws.specs.Together.{Files, Scene, gives_at, with_ops, Level, Follows}
-use Rattle.act_laws.specs.declared.seat.Seat.{Seat}
-use Rattle.act_laws.specs.declared.seat.Seat.TheVariants.{Fixed as fixed, Cell as cell, Cells as cells, Register as register}
-use Rattle.act_laws.specs.Seats.{Table, Sits, Holds, HasPlace}
-use Rattle.act_laws.specs.Fetches.{cell_address, indexed_address, fetched}
+use Rattle.act_laws.specs.Together.{Files, Scene, with_ops, Level, Follows}
+use Rattle.act_laws.specs.Seats.{Table, Holds, HasPlace}
+use Rattle.act_laws.specs.Fetches.{fetched}
 use Rattle.act_lower.specs.Code.{seat_of, operands}
 use Rattle.act_laws.specs.Seats.{StandIn}
-use Rattle.act_laws.proofs.Following.{Level-with_op, Level-with_ops, kept, length_grows, then_follows, follows_nothing, weaker, follows_map, each_all, follows_one, IsLast}
+use Rattle.act_laws.proofs.Following.{Level-with_ops, kept, length_grows, then_follows, follows_nothing, follows_map}
 use Rattle.act_laws.proofs.Fetching.{fetched_stands}
 use Rattle.act_laws.proofs.Seating.{same_column, holds_later, place_later}
 

@@ -8,7 +8,7 @@ use Rattle.phase_ops.specs.declared.phase.Source.TheVariants.{Fixed, Cell}
 use Rattle.phase_ops.specs.declared.phase.Term.{Term}
 use Rattle.phase_ops.specs.declared.phase.Micro.{Micro}
 use Rattle.phase_ops.specs.declared.phase.Micro.TheVariants as micro
-use Rattle.phase_ops.specs.Phases.{Cells, source, divisors}
+use Rattle.phase_ops.specs.Phases.{Cells, source}
 use Rattle.phase_ops.specs.Free.{In, NameEarlier, term_registers}
 use Rattle.hlfir_ops.specs.declared.what.What.{What}
 use Rattle.hlfir_ops.specs.declared.what.What.TheVariants as what
@@ -28,7 +28,6 @@ use Rattle.act_lower.specs.declared.section.Pick.{Pick}
 use Rattle.act_lower.specs.declared.section.Pick.TheVariants.{Single as single, Steps as steps}
 use Rattle.act_lower.specs.Sections.{scaled, offset, element_address, section_code}
 use Rattle.act_lower.specs.Code.{seat_of, operands, micro_of, Made, operated, op_code, body_code, Todo, elements, body, Task, todo_code, tasks_code, element_code, value_code}
-use Rattle.act_lower.specs.Covered.{AreCovered}
 use Rattle.act_lower.specs.Fits.{WhatFits, OpsFit, DimsFit, TodoFits, TasksFit, SeatFits, TableFits, ArePositive, IsSound}
 
 zero_word : IsWord (pos 0)

@@ -20,7 +20,7 @@ use Rattle.hlfir_ops.specs.Numbers.{op_numbers}
 use Rattle.hlfir_meaning.specs.Environments.{number_of}
 use Rattle.hlfir_meaning.specs.Order.{ends}
 use Rattle.act_laws.specs.declared.seat.Seat.{Seat}
-use Rattle.act_laws.specs.declared.seat.Seat.TheVariants.{Fixed as fixed, Cell as cell, Cells as cells, Register as register}
+use Rattle.act_laws.specs.declared.seat.Seat.TheVariants.{Fixed as fixed, Register as register}
 use Rattle.act_laws.specs.Seats.{Table, with_seat, seat_or}
 use Rattle.act_laws.specs.Fetches.{Fetched, fetched}
 use Rattle.act_laws.specs.Digits.{digits}

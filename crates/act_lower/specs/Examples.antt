@@ -1,20 +1,17 @@
 -- Ops of values, written out: how many they are, and what they do at one iteration.
-use Rattle.std.specs.Prelude.{◌≡◌, ℕ, ◌+◌, false, List, [], ◌∷◌, ◌++◌, length, None, pos, neg_ℤ}
-use Rattle.ws_base.specs.declared.fault.FaultName.TheVariants.{Overflow}
+use Rattle.std.specs.Prelude.{ℕ, ◌+◌, false, List, [], ◌∷◌, ◌++◌, length, None, pos, neg_ℤ}
 use Rattle.ws_space.specs.declared.shape.Dim.{Dim}
 use Rattle.phase_ops.specs.declared.effect.Effect.{Effect}
-use Rattle.phase_ops.specs.declared.effect.Effect.TheVariants.{Store, Fault}
 use Rattle.phase_ops.specs.declared.phase.Source.{Source}
 use Rattle.phase_ops.specs.declared.phase.Source.TheVariants.{Fixed, Cell}
 use Rattle.phase_ops.specs.declared.phase.Micro.{Micro}
 use Rattle.phase_ops.specs.declared.phase.Micro.TheVariants as micro
-use Rattle.phase_ops.specs.Phases.{Cells, acts_events, makes, key_of}
+use Rattle.phase_ops.specs.Phases.{Cells, acts_events, makes}
 use Rattle.hlfir_ops.specs.declared.kinds.Elem.TheVariants.{I32}
 use Rattle.hlfir_ops.specs.declared.kinds.ValueKind.TheVariants as kind
 use Rattle.hlfir_ops.specs.declared.what.ValueBinary.{ValueBinary}
 use Rattle.hlfir_ops.specs.declared.what.ValueBinary.TheVariants as binary
 use Rattle.hlfir_ops.specs.declared.what.What.TheVariants as what
-use Rattle.hlfir_ops.specs.declared.op.Op.{Op}
 use Rattle.hlfir_ops.specs.Trees.{op_of}
 use Rattle.hlfir_meaning.specs.Example.{value, gives}
 use Rattle.act_laws.specs.declared.seat.Seat.TheVariants as seat

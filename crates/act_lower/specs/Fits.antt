@@ -1,5 +1,5 @@
 -- What ops of a value are, whatever the cells hold: plain, over words, and each names only registers of earlier ones.
-use Rattle.std.specs.Prelude.{ℕ, ◌+◌, ◌*◌, ◌<◌, List, [], ◌∷◌, length, ℤ, pos, ◌<ℤ◌}
+use Rattle.std.specs.Prelude.{ℕ, ◌+◌, ◌*◌, ◌<◌, List, [], ◌∷◌, length, pos, ◌<ℤ◌}
 use Rattle.ws_space.specs.declared.shape.Dim.{Dim}
 use Rattle.phase_ops.specs.declared.phase.Source.{Source}
 use Rattle.phase_ops.specs.declared.phase.Micro.{Micro}

@@ -1,5 +1,5 @@
 -- Sections of arrays: the op of an act that loads an element.
-use Rattle.std.specs.Prelude.{◌≡◌, ℕ, ◌+◌, ◌*◌, ◌/◌, ◌%◌, ◌<◌, List, [], ◌∷◌, ◌++◌, length, Ok, ℤ, pos, ◌+ℤ◌, ◌-ℤ◌, ◌*ℤ◌}
+use Rattle.std.specs.Prelude.{◌≡◌, ℕ, ◌+◌, ◌*◌, ◌/◌, ◌%◌, List, [], ◌∷◌, ◌++◌, length, Ok, ℤ, pos, ◌+ℤ◌, ◌-ℤ◌, ◌*ℤ◌}
 use Rattle.ws_space.specs.declared.shape.Dim.{Dim}
 use Rattle.ws_space.specs.declared.state.ArrayValue.{ArrayValue}
 use Rattle.ws_space.specs.Shapes.{count, place, dims}

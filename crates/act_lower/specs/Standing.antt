@@ -1,6 +1,5 @@
 -- What the ops of a value leave.
 use Rattle.std.specs.Prelude.{◌≡◌, ℕ, List, [], ◌∷◌}
-use Rattle.ws_space.specs.declared.shape.Dim.{Dim}
 use Rattle.ws_space.specs.Shapes.{Extents, dims}
 use Rattle.phase_ops.specs.declared.phase.Source.{Source}
 use Rattle.phase_ops.specs.Free.{In}
@@ -10,8 +9,8 @@ use Rattle.hlfir_meaning.specs.Stage2.{deferred_by, values}
 use Rattle.act_laws.specs.Together.{Files, Scene, Level, Follows}
 use Rattle.act_laws.specs.Seats.{Table, Holds, HasPlace, StandIn}
 use Rattle.act_laws.specs.Fetches.{Fetched}
-use Rattle.act_laws.specs.Digits.{AreExtents, HaveDigits, IsPlaceIn}
-use Rattle.act_lower.specs.Code.{Todo, elements, body, Task, element_code, value_code}
+use Rattle.act_laws.specs.Digits.{AreExtents, IsPlaceIn}
+use Rattle.act_lower.specs.Code.{Todo, elements, body, Task, value_code}
 use Rattle.act_lower.specs.Covered.{AreCovered, known_after}
 use Rattle.act_lower.specs.Sections.{PicksAre, CellStands}
 
