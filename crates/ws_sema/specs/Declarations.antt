@@ -3,6 +3,7 @@ use Rattle.std.specs.Prelude.{ℕ, ◌*◌, Bool, true, false, not, ◌&&◌, �
 use Rattle.std.specs.List.{flat_map}
 use Rattle.ws_base.specs.declared.refusal.RefusalKind.TheVariants as kind
 use Rattle.ws_base.specs.declared.refusal.Refusal.{Refusal}
+use Rattle.ws_space.specs.declared.shape.TheConstants.{ELEMENT_LIMIT}
 use Rattle.ws_space.specs.Shapes.{declared_dim}
 pub use Rattle.ws_space.specs.Shapes.{natural}
 use Rattle.ws_tree.specs.declared.expr.Expr.{Expr}
@@ -21,11 +22,11 @@ use Rattle.ws_types.specs.Constants.{constancy, truth_constancy, constant_faults
 abbrev pub name_limit : ℕ
 name_limit = 64
 
+abbrev pub element_limit : ℕ
+element_limit = ELEMENT_LIMIT
+
 abbrev pub rank_limit : ℕ
 rank_limit = 3
-
-abbrev pub element_limit : ℕ
-element_limit = 65536
 
 abbrev pub is_declared : List Decl → Name → Bool
 is_declared [] x = false

@@ -47,9 +47,28 @@ left_faults t inside line e = faults t inside line e ++ target_faults line (targ
 abbrev pub left_type : List Row → Bool → Expr → Option Typed
 left_type t inside e = target_type (target_standing t e) (typed t inside e)
 
+-- Whether a statement stands in a FORALL, in a WHERE or FORALL, directly in a workshare region, and outside all of these. What a place is to
+-- the rules stands here once for each.
+pub record Place : Type 0 where
+  pub inside : Bool
+  pub masked : Bool
+  pub shared : Bool
+  pub outside : Bool
+
+abbrev pub nowhere : Place
+nowhere = record { inside = false; masked = false; shared = false; outside = false }
+
+abbrev pub place_of : Within → Place
+place_of within.Outside = record nowhere { outside = true }
+place_of within.Shared = record nowhere { shared = true }
+place_of (within.Masked line rank) = record nowhere { masked = true }
+place_of within.Forall = record nowhere { inside = true; masked = true }
+
 abbrev pub is_inside : Within → Bool
-is_inside within.Forall = true
-is_inside _ = false
+is_inside w = (place_of w).inside
+
+abbrev pub is_outside : Within → Bool
+is_outside w = (place_of w).outside
 
 abbrev pub types_differ : Option Typed → Option Typed → Bool
 types_differ (Some a) b = is_other_type a.truth b
@@ -71,7 +90,9 @@ is_other_rank _ _ = false
 -- the mask that controls an assignment has its rank; a break of this has the mask's line
 unfoldable pub control_faults : Within → Option Typed → List Refusal
 control_faults (within.Masked line rank) left = when (is_other_rank rank left) line kind.RankWrong
-control_faults _ left = []
+control_faults within.Outside left = []
+control_faults within.Shared left = []
+control_faults within.Forall left = []
 
 unfoldable pub sides_faults : Within → ℕ → Bool → Option Typed → Option Typed → List Refusal
 sides_faults w line bare a b =
@@ -98,7 +119,9 @@ is_rank_0 None = false
 
 abbrev pub enclosing_rank : Within → Option ℕ
 enclosing_rank (within.Masked line rank) = rank
-enclosing_rank _ = None
+enclosing_rank within.Outside = None
+enclosing_rank within.Shared = None
+enclosing_rank within.Forall = None
 
 -- the mask of a WHERE or ELSEWHERE inside a mask of this rank
 unfoldable pub mask_faults : ℕ → Option ℕ → Option Typed → List Refusal
@@ -185,17 +208,10 @@ deallocations_faults t line = flat_map (deallocation_faults t line)
 -- ---- where statements may stand
 
 abbrev pub is_masked : Within → Bool
-is_masked (within.Masked line rank) = true
-is_masked within.Forall = true
-is_masked _ = false
+is_masked w = (place_of w).masked
 
 abbrev pub is_shared : Within → Bool
-is_shared within.Shared = true
-is_shared _ = false
-
-abbrev pub is_outside : Within → Bool
-is_outside within.Outside = true
-is_outside _ = false
+is_shared w = (place_of w).shared
 
 -- DO, ALLOCATE, DEALLOCATE or READ in a workshare block
 unfoldable pub serial_faults : Within → ℕ → List Refusal
@@ -239,7 +255,13 @@ abbrev pub serial_parts : List Row → ℕ → Body → List Refusal
 serial_parts t line (Allocate ps) = allocations_faults t line ps
 serial_parts t line (Deallocate xs) = deallocations_faults t line xs
 serial_parts t line (Read es) = items_faults t line es
-serial_parts t line _ = []
+serial_parts t line (Assign left right) = []
+serial_parts t line (Masked' mask _ block _ rest) = []
+serial_parts t line (Forall' is mask _ block) = []
+serial_parts t line (Loop' x l u s _ block) = []
+serial_parts t line (Shared' _ block) = []
+serial_parts t line Unsupported = []
+serial_parts t line TooDeep' = []
 
 -- ALLOCATE, DEALLOCATE or READ
 abbrev pub serial_body_faults : List Row → Within → ℕ → Body → List Refusal

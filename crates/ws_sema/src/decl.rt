@@ -9,6 +9,7 @@ ghost use Rattle.ws_sema.specs.Seen.{holds};
 use std::alloc::{AllocError, Global};
 use std::collections::BTreeSet;
 use ws_base::{Name, Refusal, RefusalKind};
+use ws_space::ELEMENT_LIMIT;
 use ws_tree::{Bound, Decl, Expr, is_keyword};
 use ws_types::{
     Constancy, Constant, Entry, Row, Standing, check_constant, evaluate, note, truth_constancy,
@@ -20,9 +21,6 @@ const NAME_LIMIT: usize = 64;
 
 /// The greatest rank.
 const RANK_LIMIT: usize = 3;
-
-/// The greatest number of elements of a declared array.
-const ELEMENT_LIMIT: u64 = 65_536;
 
 /// Takes note of a name, and tells whether it was noted before.
 fn is_seen<'a>(seen: &mut BTreeSet<&'a str>, name: &'a str) -> Result<bool, AllocError>

@@ -55,10 +55,7 @@ fn left_side(
 pub fn is_inside(within: Within) -> bool
     ensures { result ≡ statements.is_inside within }
 {
-    match within {
-        Within::Forall => true,
-        _ => false,
-    }
+    matches!(within, Within::Forall)
 }
 
 fn types_differ(a: Option<Typed>, b: Option<Typed>) -> bool

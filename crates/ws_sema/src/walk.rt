@@ -15,31 +15,22 @@ use ws_base::{Name, Refusal, RefusalKind};
 use ws_tree::{Body, Else, Expr, Index, Stmt};
 use ws_types::{Row, Standing, expr, note, push_rows, standing_of, triplet_part, with_indexes};
 
-fn is_masked(within: Within) -> bool
-    ensures { result ≡ statements.is_masked within }
-{
-    match within {
-        Within::Masked { .. } | Within::Forall => true,
-        _ => false,
-    }
-}
-
 fn is_shared(within: Within) -> bool
     ensures { result ≡ statements.is_shared within }
 {
-    match within {
-        Within::Shared => true,
-        _ => false,
-    }
+    matches!(within, Within::Shared)
+}
+
+fn is_masked(within: Within) -> bool
+    ensures { result ≡ statements.is_masked within }
+{
+    matches!(within, Within::Masked { .. } | Within::Forall)
 }
 
 fn is_outside(within: Within) -> bool
     ensures { result ≡ statements.is_outside within }
 {
-    match within {
-        Within::Outside => true,
-        _ => false,
-    }
+    matches!(within, Within::Outside)
 }
 
 /// DO, ALLOCATE, DEALLOCATE or READ, which may not stand in a workshare block (OpenMP 5.2, 11.4).
