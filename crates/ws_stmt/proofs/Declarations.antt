@@ -15,9 +15,10 @@ use Rattle.ws_expr.specs.Parsing.{Stops, Follows}
 use Rattle.ws_expr.proofs.Heads as heads
 use Rattle.ws_stmt.specs.Roles.{is_word, is_becomes, begins_becomes, is_nothing}
 use Rattle.ws_stmt.specs.declared.form.Form.TheVariants as form
+use Rattle.ws_stmt.specs.declared.form.Said.{Said}
 use Rattle.ws_stmt.specs.declared.form.Attribute.{Attribute}
 use Rattle.ws_stmt.specs.declared.form.Attribute.TheVariants as attribute
-use Rattle.ws_stmt.specs.Statements.{Names, Has, HasWord, is_digits, InParens, ReadsKind, ReadsShape, Attributes, no_attribute, HasAttribute, ReadsAttribute, ReadsAttributes, ReadsExtent, ReadsValue, ReadsColons, ReadsEntity, Lists, entity_of, attribute_of, said}
+use Rattle.ws_stmt.specs.Statements.{Names, Has, HasWord, is_digits, InParens, ReadsKind, ReadsShape, Attributes, no_attribute, HasAttribute, ReadsAttribute, ReadsAttributes, ReadsExtent, ReadsValue, ReadsColons, ReadsEntity, Lists, entity_of, attribute_of, said, SaysDeclaration}
 use Rattle.ws_stmt.specs.Statements.ReadsKind.{no_kind, kind, named_kind, starred, starred_kind}
 use Rattle.ws_stmt.specs.Statements.ReadsAttribute.{parameter, allocatable, dimension}
 use Rattle.ws_stmt.specs.Statements.ReadsAttributes.{no_attributes, attributes}
@@ -26,7 +27,8 @@ use Rattle.ws_stmt.specs.Statements.ReadsValue.{variable, constant}
 use Rattle.ws_stmt.specs.Statements.ReadsColons.{colons, no_colons}
 use Rattle.ws_stmt.specs.Parsing.{Lacks, Ends, begins_index, is_name, after_kind}
 use Rattle.ws_stmt.proofs.Lists.{parts}
-use Rattle.ws_stmt.proofs.Parts.{at, clash, same_rest, same_name, lacks_ends, lacks_other, stops_becomes, stops_ends, no_index, becomes_is}
+use Rattle.ws_expr.proofs.Lists.{same_rest}
+use Rattle.ws_stmt.proofs.Parts.{at, clash, same_name, lacks_ends, lacks_other, stops_becomes, stops_ends, no_index, becomes_is}
 
 pub lacks_name : {x : List ℕ} {ts us : List Token} (s : Sign') → Names x ts us → Lacks s ts
 lacks_name s n = λ vs f. let e = sym n.2 ∙ f.2 in let same : n.0 ≡ f.0 = cc in let no = sym n.1 ∙ ap (λ (t : Token). t.what) same ∙ f.1 in cc
@@ -293,3 +295,27 @@ declares_as {q = q} {ds = ds} e f = ap (λ (z : Bool). said (form.Declares ds.tr
 
 pub scalar_by : {dim ts : List Token} {bounds : List Bound} → bounds ≡ [] → dim ≡ [] → ReadsExtent dim ts bounds false ts
 scalar_by {dim = dim} {ts = ts} p q = at (λ (bs : List Bound). ReadsExtent dim ts bs false ts) p (scalar q)
+
+-- ---- a whole declaration: what its parts lack, and the parts at equal tokens
+
+module _ {line : ℕ} {truth : Bool} {ts : List Token} {s : Said} (d : SaysDeclaration line truth ts s) where
+  pub kind_lacks_open : Lacks sign.Open d.us
+  kind_lacks_open = attributes_lack sign.Open not_comma_open d.attributes (colons_lack sign.Open not_double_open d.colons (entities_lack sign.Open d.entities))
+
+  pub kind_lacks_star : Lacks sign.Star d.us
+  kind_lacks_star = attributes_lack sign.Star not_comma_star d.attributes (colons_lack sign.Star not_double_star d.colons (entities_lack sign.Star d.entities))
+
+  pub attributes_lack_comma : Lacks sign.Comma d.vs
+  attributes_lack_comma = colons_lack sign.Comma not_double_comma d.colons (entities_lack sign.Comma d.entities)
+
+  pub colons_lack_double : Lacks sign.DoubleColon d.ws
+  colons_lack_double = entities_lack sign.DoubleColon d.entities
+
+  pub attributes_at : {us : List Token} → us ≡ d.us → ReadsAttributes us d.a d.vs
+  attributes_at e = at (λ (xs : List Token). ReadsAttributes xs d.a d.vs) e d.attributes
+
+  pub colons_at : {a : Attributes} {vs : List Token} → a ≡ d.a → vs ≡ d.vs → ReadsColons a.some vs d.ws
+  colons_at {vs = vs} e f = at (λ (z : Attributes). ReadsColons z.some vs d.ws) e (at (λ (xs : List Token). ReadsColons d.a.some xs d.ws) f d.colons)
+
+  pub entities_at : {a : Attributes} {ws : List Token} → a ≡ d.a → ws ≡ d.ws → Lists (ReadsEntity line truth a) ws d.ds []
+  entities_at {ws = ws} e f = at (λ (z : Attributes). Lists (ReadsEntity line truth z) ws d.ds []) e (at (λ (xs : List Token). Lists (ReadsEntity line truth d.a) xs d.ds []) f d.entities)

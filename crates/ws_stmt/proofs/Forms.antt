@@ -20,7 +20,8 @@ use Rattle.ws_stmt.specs.Statements.SaysElse.{otherwise, else_masking}
 use Rattle.ws_stmt.specs.Statements.SaysForall.{over, spanning}
 use Rattle.ws_stmt.specs.Statements.ReadsFormat.{standard, standard_unit}
 use Rattle.ws_stmt.specs.Parsing.{Lacks}
-use Rattle.ws_stmt.proofs.Parts.{at, same_rest}
+use Rattle.ws_expr.proofs.Lists.{same_rest}
+use Rattle.ws_stmt.proofs.Parts.{at}
 
 no_designator : {rest : List Token} {e : Reading Expr} → Designates [] e rest → ⊥
 no_designator (whole n) = let e = n.2 in cc

@@ -22,6 +22,7 @@ use Rattle.ws_expr.specs.Grammar.Reads.{primary, signed, joined}
 use Rattle.ws_expr.specs.Grammar.Primary.{number, yes, no, named, subscripted as subscripted', called, squared, slashed, bracketed}
 use Rattle.ws_expr.specs.Parsing.{Stops, Follows, ends_part, ending as ending_part, ClosesSubs, closes_subs, closing_subs}
 use Rattle.ws_expr.proofs.Heads as heads
+use Rattle.ws_expr.proofs.Lists.{same_rest}
 use Rattle.ws_stmt.specs.Roles.{is_word, is_becomes, begins_becomes}
 use Rattle.ws_stmt.specs.Statements.{Names, Has, HasWord, part_of, element, Designates, ReadsBound, ReadsLast, InParens, ReadsKind, ReadsShape, ReadsExtent, ReadsValue, ReadsColons, index_of, is_digits, upper_of, both_of, allocation_of}
 use Rattle.ws_stmt.specs.Statements.Designates.{whole, subscripted}
@@ -36,9 +37,6 @@ at P e p = subst P (sym e) p
 
 pub clash : {p q : Sign'} {ts us vs : List Token} → Follows p ts us → Follows q ts vs → Sign p ≡ Sign q
 clash f g = let e = sym f.2 ∙ g.2 in let same : f.0 ≡ g.0 = cc in sym f.1 ∙ ap (λ (t : Token). t.what) same ∙ g.1
-
-pub same_rest : {s : Sign'} {us a b : List Token} → Follows s us a → Follows s us b → a ≡ b
-same_rest f g = let e = sym f.2 ∙ g.2 in cc
 
 pub same_name : {x y : List ℕ} {ts us vs : List Token} → Names x ts us → Names y ts vs → (x ≡ y) × (us ≡ vs)
 same_name {x = x} {y = y} n m =
@@ -83,9 +81,6 @@ pub stops_mark : (k : ℕ) (mark : Sign') {ts us : List Token} → is_mark mark 
 stops_mark k sign.Colon {ts = ts} {us = us} h f = heads.stops_follow k sign.Colon ts us refl (λ e. cc) f
 stops_mark k sign.Comma {ts = ts} {us = us} h f = heads.stops_follow k sign.Comma ts us refl (λ e. cc) f
 stops_mark k _ h f = absurd cc
-
-pub closes_subs_by : {ts us : List Token} → Follows sign.Close ts us → ClosesSubs ts
-closes_subs_by f = ap closes_subs f.2 ∙ ap closing_subs f.1
 
 pub list_close : {begins : List Token → Bool} {ts us : List Token} → Follows sign.Close ts us → EndsList begins ts
 list_close f = (ends_by refl f, λ vs c. let no = clash c.0 f in cc)

@@ -7,6 +7,7 @@ use Rattle.ws_lex.specs.declared.token.Token.{Token}
 use Rattle.ws_lex.specs.declared.token.TokenKind.{TokenKind}
 use Rattle.ws_lex.specs.declared.token.TokenKind.TheVariants.{Word, Sign, Foreign, Directive}
 use Rattle.ws_tree.specs.Words.{is_other_statement}
+use Rattle.ws_expr.specs.Parsing.{first_is}
 use Rattle.ws_stmt.specs.declared.role.Block.{Block}
 use Rattle.ws_stmt.specs.declared.role.Block.TheVariants as block
 use Rattle.ws_stmt.specs.declared.role.Role.{Role}
@@ -68,8 +69,7 @@ is_becomes (Sign sign.Becomes) = true
 is_becomes _ = false
 
 abbrev pub begins_becomes : List Token → Bool
-begins_becomes [] = false
-begins_becomes (t ∷ ts) = is_becomes t.what
+begins_becomes = first_is is_becomes
 
 -- what follows the name of a left side: brackets, if it has subscripts, and `=`
 abbrev pub assigns : List Token → Bool
@@ -77,8 +77,7 @@ assigns [] = false
 assigns (t ∷ ts) = is_becomes t.what || (is_open t.what && begins_becomes (skip 1 ts))
 
 abbrev pub begins_word : List ℕ → List Token → Bool
-begins_word w [] = false
-begins_word w (t ∷ ts) = is_word w t.what
+begins_word w = first_is (is_word w)
 
 -- after END
 abbrev pub end_role : List Token → Role
@@ -90,8 +89,7 @@ end_role (t ∷ ts) =
 
 -- a combined construct of its own, as PARALLEL DO (OpenMP 5.2, 17)
 abbrev pub is_combined : List Token → Bool
-is_combined [] = false
-is_combined (t ∷ ts) = is_one (codes "do" ∷ codes "sections" ∷ codes "loop" ∷ codes "masked" ∷ codes "master" ∷ []) t.what
+is_combined = first_is (is_one (codes "do" ∷ codes "sections" ∷ codes "loop" ∷ codes "masked" ∷ codes "master" ∷ []))
 
 abbrev pub region_of : List Token → Option Block
 region_of [] = None
@@ -116,8 +114,7 @@ is_left_out_word (Word x) = is_other_statement x
 is_left_out_word _ = false
 
 abbrev pub begins_left_out : List Token → Bool
-begins_left_out [] = false
-begins_left_out (t ∷ ts) = is_left_out_word t.what
+begins_left_out = first_is is_left_out_word
 
 abbrev pub is_nothing : List Token → Bool
 is_nothing [] = true

@@ -22,6 +22,7 @@ use Rattle.ws_expr.specs.declared.reading.Gathered.{Gathered}
 use Rattle.ws_expr.specs.Readings.{node, leaf, only, with_one, tree_of, odd_of}
 use Rattle.ws_expr.specs.Grammar.{Reads, ReadsSubs}
 use Rattle.ws_expr.specs.Parsing.{Follows}
+use Rattle.ws_stmt.specs.declared.role.Block.{Block}
 use Rattle.ws_stmt.specs.declared.role.Block.TheVariants as block
 use Rattle.ws_stmt.specs.declared.form.Attribute.{Attribute}
 use Rattle.ws_stmt.specs.declared.form.Attribute.TheVariants as attribute
@@ -57,6 +58,14 @@ pub data Lists {A : Type 0} (P : List Token → Reading A → List Token → Typ
   first : {ts rest : List Token} {x : Reading A} → P ts x rest → Lists P ts (only x) rest
   next : {ts us vs rest : List Token} {xs : Gathered A} {x : Reading A} → Lists P ts xs us → Follows sign.Comma us vs → P vs x rest → Lists P ts (with_one xs x) rest
 
+-- ( item {, item} )
+pub record ListsInParens {A : Type 0} (P : List Token → Reading A → List Token → Type 0) (ts : List Token) (xs : Gathered A) (rest : List Token) : Type 0 where
+  pub us : List Token
+  pub vs : List Token
+  pub opens : Follows sign.Open ts us
+  pub lists : Lists P us xs vs
+  pub closes : Follows sign.Close vs rest
+
 -- ( expr )
 pub record InParens (ts : List Token) (e : Reading Expr) (rest : List Token) : Type 0 where
   pub us : List Token
@@ -88,12 +97,8 @@ pub data ReadsBound : List Token → Reading Bound → List Token → Type 0 whe
   deferred : {ts rest : List Token} → Follows sign.Colon ts rest → ReadsBound ts (part_of bound.Deferred false) rest
 
 -- ( bound {, bound} )
-pub record ReadsShape (ts : List Token) (bounds : Gathered Bound) (rest : List Token) : Type 0 where
-  pub us : List Token
-  pub vs : List Token
-  pub opens : Follows sign.Open ts us
-  pub lists : Lists ReadsBound us bounds vs
-  pub closes : Follows sign.Close vs rest
+abbrev pub ReadsShape : List Token → Gathered Bound → List Token → Type 0
+ReadsShape = ListsInParens ReadsBound
 
 -- [mark expr], as [: expr] or [, expr]
 pub data ReadsLast (mark : Sign') : List Token → Option (Reading Expr) → List Token → Type 0 where
@@ -313,22 +318,14 @@ pub record SaysDo (ts : List Token) (s : Said) : Type 0 where
 
 -- ALLOCATE ( name ( shape ) {, name ( shape )} )
 pub record SaysAllocate (ts : List Token) (s : Said) : Type 0 where
-  pub us : List Token
-  pub vs : List Token
   pub ps : Gathered Allocation
-  pub opens : Follows sign.Open ts us
-  pub lists : Lists ReadsAllocation us ps vs
-  pub closes : Follows sign.Close vs []
+  pub arrays : ListsInParens ReadsAllocation ts ps []
   pub is : s ≡ said (form.Acts (body.Allocate ps.trees)) ps.odd
 
 -- DEALLOCATE ( name {, name} )
 pub record SaysDeallocate (ts : List Token) (s : Said) : Type 0 where
-  pub us : List Token
-  pub vs : List Token
   pub xs : Gathered (List ℕ)
-  pub opens : Follows sign.Open ts us
-  pub lists : Lists ReadsName us xs vs
-  pub closes : Follows sign.Close vs []
+  pub arrays : ListsInParens ReadsName ts xs []
   pub is : s ≡ said (form.Acts (body.Deallocate xs.trees)) xs.odd
 
 -- * , or ( * , * )
@@ -386,17 +383,19 @@ parallel_form (t ∷ ts) =
     if is_word (codes "workshare") t.what then (if is_shared ts then Some (form.OpensRegion block.ParallelWorkshare) else None) else
     (if is_shared (t ∷ ts) then Some (form.OpensRegion block.Parallel) else None)
 
+-- the end of a block where nothing follows, and that of another where the word follows alone
+abbrev pub end_by : Block → List ℕ → Block → List Token → Option Form
+end_by b w other [] = Some (form.Closes b)
+end_by b w other (t ∷ []) = if is_word w t.what then Some (form.Closes other) else None
+end_by b w other _ = None
+
 -- WORKSHARE [NOWAIT]
 abbrev pub workshare_end : List Token → Option Form
-workshare_end [] = Some (form.Closes block.Workshare)
-workshare_end (t ∷ []) = if is_word (codes "nowait") t.what then Some (form.Closes block.Workshare) else None
-workshare_end _ = None
+workshare_end = end_by block.Workshare (codes "nowait") block.Workshare
 
 -- PARALLEL [WORKSHARE]
 abbrev pub parallel_end : List Token → Option Form
-parallel_end [] = Some (form.Closes block.Parallel)
-parallel_end (t ∷ []) = if is_word (codes "workshare") t.what then Some (form.Closes block.ParallelWorkshare) else None
-parallel_end _ = None
+parallel_end = end_by block.Parallel (codes "workshare") block.ParallelWorkshare
 
 -- after END in a directive
 abbrev pub region_end : List Token → Option Form

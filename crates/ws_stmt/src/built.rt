@@ -13,7 +13,7 @@ use crate::form::{Form, Said};
 use sqlite_items::Items;
 use std::alloc::{AllocError, Global};
 use ws_base::Name;
-use ws_expr::{Gathered, Reading};
+use ws_expr::{Gathered, Reading, node};
 use ws_tree::{Body, Bound, BoundList, Decl, Expr, Index, Part, Stmt, Sub, is_other_call};
 
 fn part_of<T>(tree: T, odd: bool) -> Reading<T>
@@ -32,19 +32,7 @@ pub fn element(array: Name, subs: Gathered<Sub>) -> Reading<Expr>
 {
     let Gathered { trees, depth, odd } = subs;
     let odd = odd || is_other_call(array.as_str().as_bytes());
-    if depth < 64 {
-        Reading {
-            tree: Expr::Part(array, trees),
-            depth: depth + 1,
-            odd,
-        }
-    } else {
-        Reading {
-            tree: Expr::TooDeep,
-            depth: 65,
-            odd: false,
-        }
-    }
+    node(depth, odd, Expr::Part(array, trees))
 }
 
 /// A variable without subscripts.
@@ -193,9 +181,10 @@ pub fn acts(body: Reading<Body>) -> Said
     said(Form::Acts(tree), odd)
 }
 
-fn one_statement(alloc: Global, line: u32, body: Body) -> Result<Items<Stmt>, AllocError>
-    ensures { IfOk result (λ ss. ss ≡ statements.one_statement line body) }
+fn one_statement(alloc: Global, line: u32, body: Reading<Body>) -> Result<Items<Stmt>, AllocError>
+    ensures { IfOk result (λ ss. ss ≡ statements.one_statement line body.tree) }
 {
+    let Reading { tree: body, .. } = body;
     let mut block = Items::new(alloc);
     block.push(Stmt { line, body })?;
     Ok(block)
@@ -211,12 +200,8 @@ pub fn masked(
     ensures { IfOk result (λ s. s ≡ statements.masked_said line mask body) }
 {
     let Reading { tree, odd, .. } = mask;
-    let Reading {
-        tree: act,
-        odd: act_odd,
-        ..
-    } = body;
-    let block = one_statement(alloc, line, act)?;
+    let act_odd = body.odd;
+    let block = one_statement(alloc, line, body)?;
     Ok(said(
         Form::Acts(Body::Masked {
             mask: tree,
@@ -232,6 +217,13 @@ pub fn opens_where(mask: Reading<Expr>) -> Said
 {
     let Reading { tree, odd, .. } = mask;
     said(Form::OpensWhere(tree), odd)
+}
+
+pub fn opens_do(index: Reading<Index>) -> Said
+    ensures { result ≡ statements.said (form.OpensDo index.tree) index.odd }
+{
+    let Reading { tree, odd, .. } = index;
+    said(Form::OpensDo(tree), odd)
 }
 
 pub fn opens_else(mask: Reading<Expr>) -> Said
@@ -252,13 +244,9 @@ pub fn over(
     ensures { IfOk result (λ s. s ≡ statements.over_said line indexes mask body) }
 {
     let Gathered { trees, odd, .. } = indexes;
+    let act_odd = body.odd;
+    let block = one_statement(alloc, line, body)?;
     let (mask, mask_odd) = optional(mask);
-    let Reading {
-        tree: act,
-        odd: act_odd,
-        ..
-    } = body;
-    let block = one_statement(alloc, line, act)?;
     Ok(said(
         Form::Acts(Body::Forall {
             indexes: trees,
@@ -275,13 +263,6 @@ pub fn opens_forall(indexes: Gathered<Index>, mask: Option<Reading<Expr>>) -> Sa
     let Gathered { trees, odd, .. } = indexes;
     let (mask, mask_odd) = optional(mask);
     said(Form::OpensForall(trees, mask), odd || mask_odd)
-}
-
-pub fn opens_do(index: Reading<Index>) -> Said
-    ensures { result ≡ statements.said (form.OpensDo index.tree) index.odd }
-{
-    let Reading { tree, odd, .. } = index;
-    said(Form::OpensDo(tree), odd)
 }
 
 pub fn allocates(parts: Gathered<Part>) -> Said

@@ -7,9 +7,13 @@ ghost use Rattle.ws_expr.specs.Parsing.{Answers};
 ghost use Rattle.ws_stmt.specs.Statements as statements;
 ghost use Rattle.ws_stmt.specs.Parsing as parsing;
 
+use crate::token::expect;
 use std::alloc::{AllocError, Global};
 use ws_expr::{Failed, Gathered, Reading, after};
 use ws_lex::{Sign, Token};
+
+/// The parts of a list, and what follows it.
+type Listed<'a, T> = Result<(Gathered<T>, &'a [Token]), Failed>;
 
 /// How a part of a list is read.
 pub trait Reader {
@@ -54,11 +58,7 @@ fn next_part<'a, R: Reader>(reader: &R, tokens: &'a [Token]) -> Option<&'a [Toke
 }
 
 /// part {, part}
-pub fn list<'a, R: Reader>(
-    reader: &R,
-    alloc: Global,
-    tokens: &'a [Token],
-) -> Result<(Gathered<R::Of>, &'a [Token]), Failed>
+pub fn list<'a, R: Reader>(reader: &R, alloc: Global, tokens: &'a [Token]) -> Listed<'a, R::Of>
     ensures sound { IfOk result (λ r. statements.Lists (R.reads reader.now) tokens.now r.0 r.1.now) }
     ensures shorter { IfOk result (λ r. length r.1.now < length tokens.now) }
     ensures complete { (xs : Gathered R.Of) (rest : List Token) → statements.Lists (R.reads reader.now) tokens.now xs rest → parsing.EndsList (R.begins reader.now) rest → Answers result (λ r. (r.0 ≡ xs) × (r.1.now ≡ rest)) }
@@ -71,5 +71,21 @@ pub fn list<'a, R: Reader>(
         items.push(x)?;
         rest = after;
     }
+    Ok((items, rest))
+}
+
+/// ( part {, part} )
+pub fn list_in_parens<'a, R: Reader>(
+    reader: &R,
+    alloc: Global,
+    tokens: &'a [Token],
+) -> Listed<'a, R::Of>
+    ensures sound { IfOk result (λ r. statements.ListsInParens (R.reads reader.now) tokens.now r.0 r.1.now) }
+    ensures shorter { IfOk result (λ r. length r.1.now < length tokens.now) }
+    ensures complete { (xs : Gathered R.Of) (rest : List Token) → statements.ListsInParens (R.reads reader.now) tokens.now xs rest → Answers result (λ r. (r.0 ≡ xs) × (r.1.now ≡ rest)) }
+{
+    let rest = expect(tokens, Sign::Open)?;
+    let (items, rest) = list(reader, alloc, rest)?;
+    let rest = expect(rest, Sign::Close)?;
     Ok((items, rest))
 }

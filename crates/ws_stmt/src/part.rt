@@ -14,7 +14,7 @@ ghost use Rattle.ws_stmt.specs.Statements as statements;
 ghost use Rattle.ws_stmt.specs.Parsing as parsing;
 
 use crate::built::{allocation, both, deferred, element, index_of, listed, upper, variable};
-use crate::list::{Reader, list};
+use crate::list::{Reader, list, list_in_parens};
 use crate::role::begins_becomes;
 use crate::token::{expect, name};
 use std::alloc::Global;
@@ -132,10 +132,7 @@ pub fn shape(alloc: Global, tokens: &[Token]) -> Result<(Gathered<Bound>, &[Toke
     ensures shorter { IfOk result (λ r. length r.1.now < length tokens.now) }
     ensures complete { (bounds : Gathered Bound) (rest : List Token) → statements.ReadsShape tokens.now bounds rest → Answers result (λ r. (r.0 ≡ bounds) × (r.1.now ≡ rest)) }
 {
-    let rest = expect(tokens, Sign::Open)?;
-    let (bounds, rest) = list(&Bounds, alloc, rest)?;
-    let rest = expect(rest, Sign::Close)?;
-    Ok((bounds, rest))
+    list_in_parens(&Bounds, alloc, tokens)
 }
 
 /// [mark expr]

@@ -36,21 +36,33 @@ pub fn is_word(word: &[u8], what: &TokenKind) -> bool
     }
 }
 
-pub fn begins_word(word: &[u8], tokens: &[Token]) -> bool
-    ensures { result ≡ roles.begins_word word.now tokens.now }
-{
-    match tokens.first() {
-        None => false,
-        Some(first) => is_word(word, &first.what),
-    }
-}
-
 fn is_left_out_word(what: &TokenKind) -> bool
     ensures { result ≡ roles.is_left_out_word what.now }
 {
     match what {
         TokenKind::Word(name) => is_other_statement(name.as_str().as_bytes()),
         _ => false,
+    }
+}
+
+fn is_becomes(what: &TokenKind) -> bool
+    ensures { result ≡ roles.is_becomes what.now }
+{
+    matches!(what, TokenKind::Sign(Sign::Becomes))
+}
+
+fn is_foreign(what: &TokenKind) -> bool
+    ensures { result ≡ roles.is_foreign what.now }
+{
+    matches!(what, TokenKind::Foreign)
+}
+
+pub fn begins_word(word: &[u8], tokens: &[Token]) -> bool
+    ensures { result ≡ roles.begins_word word.now tokens.now }
+{
+    match tokens.first() {
+        None => false,
+        Some(first) => is_word(word, &first.what),
     }
 }
 
@@ -63,12 +75,6 @@ fn begins_left_out(tokens: &[Token]) -> bool
     }
 }
 
-fn is_becomes(what: &TokenKind) -> bool
-    ensures { result ≡ roles.is_becomes what.now }
-{
-    matches!(what, TokenKind::Sign(Sign::Becomes))
-}
-
 pub fn begins_becomes(tokens: &[Token]) -> bool
     ensures { result ≡ roles.begins_becomes tokens.now }
 {
@@ -76,12 +82,6 @@ pub fn begins_becomes(tokens: &[Token]) -> bool
         None => false,
         Some(first) => is_becomes(&first.what),
     }
-}
-
-fn is_foreign(what: &TokenKind) -> bool
-    ensures { result ≡ roles.is_foreign what.now }
-{
-    matches!(what, TokenKind::Foreign)
 }
 
 /// A token that no statement of the grammar has.

@@ -14,9 +14,9 @@ use crate::built::{
 };
 use crate::declare::declaration;
 use crate::form::{Form, Said, Start};
-use crate::list::list;
+use crate::list::{list, list_in_parens};
 use crate::part::{Allocations, Designators, Names, designator, header, in_parens, index};
-use crate::role::{Block, assigns, is_word};
+use crate::role::{Block, assigns};
 use crate::token::{after_word, expect, is_done, name};
 use crate::words::{alone, directive_form, end_form, program_end};
 use std::alloc::Global;
@@ -145,9 +145,7 @@ fn says_allocate(alloc: Global, tokens: &[Token]) -> Result<Said, Failed>
     ensures sound { IfOk result (λ s. statements.SaysAllocate tokens.now s) }
     ensures complete { (s : Said) → statements.SaysAllocate tokens.now s → Answers result (λ found. found ≡ s) }
 {
-    let rest = expect(tokens, Sign::Open)?;
-    let (parts, rest) = list(&Allocations, alloc, rest)?;
-    let rest = expect(rest, Sign::Close)?;
+    let (parts, rest) = list_in_parens(&Allocations, alloc, tokens)?;
     if is_done(rest) {
         Ok(allocates(parts))
     } else {
@@ -160,9 +158,7 @@ fn says_deallocate(alloc: Global, tokens: &[Token]) -> Result<Said, Failed>
     ensures sound { IfOk result (λ s. statements.SaysDeallocate tokens.now s) }
     ensures complete { (s : Said) → statements.SaysDeallocate tokens.now s → Answers result (λ found. found ≡ s) }
 {
-    let rest = expect(tokens, Sign::Open)?;
-    let (names, rest) = list(&Names, alloc, rest)?;
-    let rest = expect(rest, Sign::Close)?;
+    let (names, rest) = list_in_parens(&Names, alloc, tokens)?;
     if is_done(rest) {
         Ok(deallocates(names))
     } else {
@@ -217,43 +213,25 @@ fn worded(form: Option<Form>) -> Result<Said, Failed>
 fn word_start(word: &Name) -> Start
     ensures { result ≡ statements.word_start word.now }
 {
-    let word = word.as_str().as_bytes();
-    if word == b"program".as_slice() {
-        Start::Program
-    } else if word == b"implicit".as_slice() {
-        Start::Implicit
-    } else if word == b"integer".as_slice() {
-        Start::Declaration(false)
-    } else if word == b"logical".as_slice() {
-        Start::Declaration(true)
-    } else if word == b"where".as_slice() {
-        Start::Where
-    } else if word == b"elsewhere".as_slice() {
-        Start::Elsewhere
-    } else if word == b"else".as_slice() {
-        Start::Else
-    } else if word == b"forall".as_slice() {
-        Start::Forall
-    } else if word == b"do".as_slice() {
-        Start::Do
-    } else if word == b"allocate".as_slice() {
-        Start::Allocate
-    } else if word == b"deallocate".as_slice() {
-        Start::Deallocate
-    } else if word == b"read".as_slice() {
-        Start::Read
-    } else if word == b"end".as_slice() {
-        Start::End
-    } else if word == b"enddo".as_slice() {
-        Start::EndOf(Block::Do)
-    } else if word == b"endwhere".as_slice() {
-        Start::EndOf(Block::Where)
-    } else if word == b"endforall".as_slice() {
-        Start::EndOf(Block::Forall)
-    } else if word == b"endprogram".as_slice() {
-        Start::EndProgram
-    } else {
-        Start::Other
+    match word.as_str() {
+        "program" => Start::Program,
+        "implicit" => Start::Implicit,
+        "integer" => Start::Declaration(false),
+        "logical" => Start::Declaration(true),
+        "where" => Start::Where,
+        "elsewhere" => Start::Elsewhere,
+        "else" => Start::Else,
+        "forall" => Start::Forall,
+        "do" => Start::Do,
+        "allocate" => Start::Allocate,
+        "deallocate" => Start::Deallocate,
+        "read" => Start::Read,
+        "end" => Start::End,
+        "enddo" => Start::EndOf(Block::Do),
+        "endwhere" => Start::EndOf(Block::Where),
+        "endforall" => Start::EndOf(Block::Forall),
+        "endprogram" => Start::EndProgram,
+        _ => Start::Other,
     }
 }
 

@@ -89,30 +89,15 @@ fn parallel_form(tokens: &[Token]) -> Option<Form>
     }
 }
 
-fn workshare_end(tokens: &[Token]) -> Option<Form>
-    ensures { result ≡ statements.workshare_end tokens.now }
+/// The end of `block` where nothing follows, and that of `other` where the word follows alone.
+fn end_by(tokens: &[Token], block: Block, word: &[u8], other: Block) -> Option<Form>
+    ensures { result ≡ statements.end_by block word.now other tokens.now }
 {
     match tokens {
-        [] => Some(Form::Closes(Block::Workshare)),
+        [] => Some(Form::Closes(block)),
         [only] => {
-            if is_word(b"nowait", &only.what) {
-                Some(Form::Closes(Block::Workshare))
-            } else {
-                None
-            }
-        }
-        _ => None,
-    }
-}
-
-fn parallel_end(tokens: &[Token]) -> Option<Form>
-    ensures { result ≡ statements.parallel_end tokens.now }
-{
-    match tokens {
-        [] => Some(Form::Closes(Block::Parallel)),
-        [only] => {
-            if is_word(b"workshare", &only.what) {
-                Some(Form::Closes(Block::ParallelWorkshare))
+            if is_word(word, &only.what) {
+                Some(Form::Closes(other))
             } else {
                 None
             }
@@ -126,9 +111,14 @@ fn region_end(tokens: &[Token]) -> Option<Form>
 {
     let (first, rest) = tokens.split_first()?;
     if is_word(b"workshare", &first.what) {
-        workshare_end(rest)
+        end_by(rest, Block::Workshare, b"nowait", Block::Workshare)
     } else if is_word(b"parallel", &first.what) {
-        parallel_end(rest)
+        end_by(
+            rest,
+            Block::Parallel,
+            b"workshare",
+            Block::ParallelWorkshare,
+        )
     } else {
         None
     }

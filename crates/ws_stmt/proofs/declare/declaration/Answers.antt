@@ -1,85 +1,46 @@
 use Rattle.ws_stmt.specs.Parsing.{seen}
 use Rattle.std.proofs.Common.{◌≡◌, ◌<◌, ◌≤◌, List, [], ◌∷◌, Option, Some, None, length, refl, sym, ap, ◌∙◌, arith}
-use Rattle.ws_lex.specs.declared.token.Sign.TheVariants as sign
 use Rattle.ws_lex.specs.declared.token.Token.{Token}
-use Rattle.ws_expr.specs.Grammar.{Reads, ReadsSubs}
 use Rattle.ws_expr.proofs.Heads as heads
-use Rattle.ws_stmt.specs.Statements as statements
 use Rattle.ws_stmt.proofs.Parts as parts
 use Rattle.ws_stmt.proofs.Declarations as decls
-use Rattle.std.proofs.Common.{Bool}
-use Rattle.ws_stmt.specs.Statements.{Attributes, ReadsAttributes, ReadsColons, ReadsEntity, Lists}
+use Rattle.ws_stmt.specs.Statements.{ReadsEntity, Lists}
 use Rattle.ws_stmt.proofs.declare.declaration.Goals as goal
 
 pub returns-in_err-odd-clause-complete : goal.returns-in_err-odd-clause-complete
 returns-in_err-odd-clause-complete c = λ s d.
-    let lo = decls.attributes_lack sign.Open decls.not_comma_open d.attributes (decls.colons_lack sign.Open decls.not_double_open d.colons (decls.entities_lack sign.Open d.entities)) in
-    let ls = decls.attributes_lack sign.Star decls.not_comma_star d.attributes (decls.colons_lack sign.Star decls.not_double_star d.colons (decls.entities_lack sign.Star d.entities)) in
-    heads.failing _ c.from_residual.result c.in_err-odd.field-0.0 c.from_residual.ensures.1 (c.in_err-odd.ensures.complete d.odd d.us d.kind lo ls)
+    heads.failing _ c.from_residual.result c.in_err-odd.field-0.0 c.from_residual.ensures.1 (c.in_err-odd.ensures.complete d.odd d.us d.kind (decls.kind_lacks_open d) (decls.kind_lacks_star d))
 
 pub returns-in_err-attributes-clause-complete : goal.returns-in_err-attributes-clause-complete
 returns-in_err-attributes-clause-complete c = λ s d.
-    let lo = decls.attributes_lack sign.Open decls.not_comma_open d.attributes (decls.colons_lack sign.Open decls.not_double_open d.colons (decls.entities_lack sign.Open d.entities)) in
-    let ls = decls.attributes_lack sign.Star decls.not_comma_star d.attributes (decls.colons_lack sign.Star decls.not_double_star d.colons (decls.entities_lack sign.Star d.entities)) in
-    let g1 = c.in_ok-odd.ensures.complete d.odd d.us d.kind lo ls in
-    let a1 = parts.at (λ (xs : List Token). ReadsAttributes xs d.a d.vs) g1.1 d.attributes in
-    let lc = decls.colons_lack sign.Comma decls.not_double_comma d.colons (decls.entities_lack sign.Comma d.entities) in
-    heads.failing _ c.from_residual-in_err-attributes.result c.in_err-attributes.field-0.0 c.from_residual-in_err-attributes.ensures.1 (c.in_err-attributes.ensures.complete d.a d.vs a1 lc)
+    let g1 = c.in_ok-odd.ensures.complete d.odd d.us d.kind (decls.kind_lacks_open d) (decls.kind_lacks_star d) in
+    heads.failing _ c.from_residual-in_err-attributes.result c.in_err-attributes.field-0.0 c.from_residual-in_err-attributes.ensures.1 (c.in_err-attributes.ensures.complete d.a d.vs (decls.attributes_at d g1.1) (decls.attributes_lack_comma d))
 
 pub returns-in_err-rest-clause-complete : goal.returns-in_err-rest-clause-complete
 returns-in_err-rest-clause-complete c = λ s d.
-    let lo = decls.attributes_lack sign.Open decls.not_comma_open d.attributes (decls.colons_lack sign.Open decls.not_double_open d.colons (decls.entities_lack sign.Open d.entities)) in
-    let ls = decls.attributes_lack sign.Star decls.not_comma_star d.attributes (decls.colons_lack sign.Star decls.not_double_star d.colons (decls.entities_lack sign.Star d.entities)) in
-    let g1 = c.in_ok-odd.ensures.complete d.odd d.us d.kind lo ls in
-    let a1 = parts.at (λ (xs : List Token). ReadsAttributes xs d.a d.vs) g1.1 d.attributes in
-    let lc = decls.colons_lack sign.Comma decls.not_double_comma d.colons (decls.entities_lack sign.Comma d.entities) in
-    let g2 = c.in_ok-attributes.ensures.complete d.a d.vs a1 lc in
-    let c1 = parts.at (λ (b : Bool). ReadsColons b c.in_ok-attributes.rest.now d.ws) (ap (λ (z : Attributes). z.some) g2.0) (parts.at (λ (xs : List Token). ReadsColons d.a.some xs d.ws) g2.1 d.colons) in
-    let ld = decls.entities_lack sign.DoubleColon d.entities in
-    heads.failing _ c.from_residual-in_err-rest.result c.in_err-rest.field-0.0 c.from_residual-in_err-rest.ensures.1 (c.in_err-rest.ensures.complete d.ws c1 ld)
+    let g1 = c.in_ok-odd.ensures.complete d.odd d.us d.kind (decls.kind_lacks_open d) (decls.kind_lacks_star d) in
+    let g2 = c.in_ok-attributes.ensures.complete d.a d.vs (decls.attributes_at d g1.1) (decls.attributes_lack_comma d) in
+    heads.failing _ c.from_residual-in_err-rest.result c.in_err-rest.field-0.0 c.from_residual-in_err-rest.ensures.1 (c.in_err-rest.ensures.complete d.ws (decls.colons_at d g2.0 g2.1) (decls.colons_lack_double d))
 
 pub returns-in_err-decls-clause-complete : goal.returns-in_err-decls-clause-complete
 returns-in_err-decls-clause-complete c = λ s d.
-    let lo = decls.attributes_lack sign.Open decls.not_comma_open d.attributes (decls.colons_lack sign.Open decls.not_double_open d.colons (decls.entities_lack sign.Open d.entities)) in
-    let ls = decls.attributes_lack sign.Star decls.not_comma_star d.attributes (decls.colons_lack sign.Star decls.not_double_star d.colons (decls.entities_lack sign.Star d.entities)) in
-    let g1 = c.in_ok-odd.ensures.complete d.odd d.us d.kind lo ls in
-    let a1 = parts.at (λ (xs : List Token). ReadsAttributes xs d.a d.vs) g1.1 d.attributes in
-    let lc = decls.colons_lack sign.Comma decls.not_double_comma d.colons (decls.entities_lack sign.Comma d.entities) in
-    let g2 = c.in_ok-attributes.ensures.complete d.a d.vs a1 lc in
-    let c1 = parts.at (λ (b : Bool). ReadsColons b c.in_ok-attributes.rest.now d.ws) (ap (λ (z : Attributes). z.some) g2.0) (parts.at (λ (xs : List Token). ReadsColons d.a.some xs d.ws) g2.1 d.colons) in
-    let ld = decls.entities_lack sign.DoubleColon d.entities in
-    let g3 = c.in_ok-rest.ensures.complete d.ws c1 ld in
-    let e1 = parts.at (λ (z : Attributes). Lists (ReadsEntity c.args.line c.args.truth z) c.in_ok-rest.rest.now d.ds []) g2.0 (parts.at (λ (xs : List Token). Lists (ReadsEntity c.args.line c.args.truth d.a) xs d.ds []) g3 d.entities) in
-    heads.failing _ c.from_residual-in_err-decls.result c.in_err-decls.field-0.0 c.from_residual-in_err-decls.ensures.1 (c.in_err-decls.ensures.complete d.ds [] e1 (parts.list_end _))
+    let g1 = c.in_ok-odd.ensures.complete d.odd d.us d.kind (decls.kind_lacks_open d) (decls.kind_lacks_star d) in
+    let g2 = c.in_ok-attributes.ensures.complete d.a d.vs (decls.attributes_at d g1.1) (decls.attributes_lack_comma d) in
+    let g3 = c.in_ok-rest.ensures.complete d.ws (decls.colons_at d g2.0 g2.1) (decls.colons_lack_double d) in
+    heads.failing _ c.from_residual-in_err-decls.result c.in_err-decls.field-0.0 c.from_residual-in_err-decls.ensures.1 (c.in_err-decls.ensures.complete d.ds [] (decls.entities_at d g2.0 g3) (parts.list_end _))
 
 pub returns-then-is_done-clause-complete : goal.returns-then-is_done-clause-complete
 returns-then-is_done-clause-complete c = λ s d.
-    let lo = decls.attributes_lack sign.Open decls.not_comma_open d.attributes (decls.colons_lack sign.Open decls.not_double_open d.colons (decls.entities_lack sign.Open d.entities)) in
-    let ls = decls.attributes_lack sign.Star decls.not_comma_star d.attributes (decls.colons_lack sign.Star decls.not_double_star d.colons (decls.entities_lack sign.Star d.entities)) in
-    let g1 = c.in_ok-odd.ensures.complete d.odd d.us d.kind lo ls in
-    let a1 = parts.at (λ (xs : List Token). ReadsAttributes xs d.a d.vs) g1.1 d.attributes in
-    let lc = decls.colons_lack sign.Comma decls.not_double_comma d.colons (decls.entities_lack sign.Comma d.entities) in
-    let g2 = c.in_ok-attributes.ensures.complete d.a d.vs a1 lc in
-    let c1 = parts.at (λ (b : Bool). ReadsColons b c.in_ok-attributes.rest.now d.ws) (ap (λ (z : Attributes). z.some) g2.0) (parts.at (λ (xs : List Token). ReadsColons d.a.some xs d.ws) g2.1 d.colons) in
-    let ld = decls.entities_lack sign.DoubleColon d.entities in
-    let g3 = c.in_ok-rest.ensures.complete d.ws c1 ld in
-    let e1 = parts.at (λ (z : Attributes). Lists (ReadsEntity c.args.line c.args.truth z) c.in_ok-rest.rest.now d.ds []) g2.0 (parts.at (λ (xs : List Token). Lists (ReadsEntity c.args.line c.args.truth d.a) xs d.ds []) g3 d.entities) in
-    let g4 = c.in_ok-decls.ensures.complete d.ds [] e1 (parts.list_end _) in
+    let g1 = c.in_ok-odd.ensures.complete d.odd d.us d.kind (decls.kind_lacks_open d) (decls.kind_lacks_star d) in
+    let g2 = c.in_ok-attributes.ensures.complete d.a d.vs (decls.attributes_at d g1.1) (decls.attributes_lack_comma d) in
+    let g4 = c.in_ok-decls.ensures.complete d.ds [] (decls.entities_at d g2.0 (c.in_ok-rest.ensures.complete d.ws (decls.colons_at d g2.0 g2.1) (decls.colons_lack_double d))) (parts.list_end _) in
     c.declares.ensures ∙ decls.declares_as g1.0 g4.0 ∙ sym d.is
 
 pub returns-else-is_done-clause-complete : goal.returns-else-is_done-clause-complete
 returns-else-is_done-clause-complete c = λ s d.
-    let lo = decls.attributes_lack sign.Open decls.not_comma_open d.attributes (decls.colons_lack sign.Open decls.not_double_open d.colons (decls.entities_lack sign.Open d.entities)) in
-    let ls = decls.attributes_lack sign.Star decls.not_comma_star d.attributes (decls.colons_lack sign.Star decls.not_double_star d.colons (decls.entities_lack sign.Star d.entities)) in
-    let g1 = c.in_ok-odd.ensures.complete d.odd d.us d.kind lo ls in
-    let a1 = parts.at (λ (xs : List Token). ReadsAttributes xs d.a d.vs) g1.1 d.attributes in
-    let lc = decls.colons_lack sign.Comma decls.not_double_comma d.colons (decls.entities_lack sign.Comma d.entities) in
-    let g2 = c.in_ok-attributes.ensures.complete d.a d.vs a1 lc in
-    let c1 = parts.at (λ (b : Bool). ReadsColons b c.in_ok-attributes.rest.now d.ws) (ap (λ (z : Attributes). z.some) g2.0) (parts.at (λ (xs : List Token). ReadsColons d.a.some xs d.ws) g2.1 d.colons) in
-    let ld = decls.entities_lack sign.DoubleColon d.entities in
-    let g3 = c.in_ok-rest.ensures.complete d.ws c1 ld in
-    let e1 = parts.at (λ (z : Attributes). Lists (ReadsEntity c.args.line c.args.truth z) c.in_ok-rest.rest.now d.ds []) g2.0 (parts.at (λ (xs : List Token). Lists (ReadsEntity c.args.line c.args.truth d.a) xs d.ds []) g3 d.entities) in
-    let g4 = c.in_ok-decls.ensures.complete d.ds [] e1 (parts.list_end _) in
+    let g1 = c.in_ok-odd.ensures.complete d.odd d.us d.kind (decls.kind_lacks_open d) (decls.kind_lacks_star d) in
+    let g2 = c.in_ok-attributes.ensures.complete d.a d.vs (decls.attributes_at d g1.1) (decls.attributes_lack_comma d) in
+    let g4 = c.in_ok-decls.ensures.complete d.ds [] (decls.entities_at d g2.0 (c.in_ok-rest.ensures.complete d.ws (decls.colons_at d g2.0 g2.1) (decls.colons_lack_double d))) (parts.list_end _) in
     decls.something _ (sym c.is_done.ensures ∙ c.if-is_done.false) g4.1
 
 pub returns-then-is_done-clause-sound : goal.returns-then-is_done-clause-sound

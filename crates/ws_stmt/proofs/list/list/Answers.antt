@@ -1,5 +1,6 @@
 use Rattle.std.proofs.Common.{◌<◌, length, ap, arith}
 use Rattle.ws_expr.proofs.Heads as heads
+use Rattle.ws_expr.proofs.Lists as parts_read
 use Rattle.ws_stmt.proofs.Lists as lists
 use Rattle.ws_stmt.proofs.list.list.Goals as goal
 
@@ -10,14 +11,14 @@ returns-in_err-x-clause-complete g c = λ xs rest d h.
 
 pub items-init : goal.items-init
 items-init g c =
-    let is = lists.pushed c.new-items.result c.in_ok-x.x c.in_ok-push.ensures c.new-items.ensures in
+    let is = parts_read.pushed c.new-items.result c.in_ok-x.x c.in_ok-push.ensures c.new-items.ensures in
     record {
       shorter = c.in_ok-x.ensures.shorter;
       sound = lists.first_by _ _ _ is c.in_ok-x.ensures.sound;
       complete = λ xs rest d h.
           let b = lists.parts d in
           let got = c.in_ok-x.ensures.complete b.x b.after b.read (lists.ends_more b.others h.0) in
-          lists.begins_at b is got.0 got.1;
+          parts_read.begins_at b is got.0 got.1;
     }
 
 pub returns-in_err-x-2-clause-complete : goal.returns-in_err-x-2-clause-complete
@@ -34,7 +35,7 @@ items-preserved g c =
       complete = λ xs rest d h.
           let n = lists.next_part c.in-Some.ensures.some (c.items.invariant.complete xs rest d h) h.1 in
           let got = c.in_ok-x-2.ensures.complete n.x n.after n.read (lists.ends_more n.others h.0) in
-          lists.next_at n c.in_ok-push-2.ensures got.0 got.1;
+          parts_read.next_at n c.in_ok-push-2.ensures got.0 got.1;
     }
 
 pub returns-clause-complete : goal.returns-clause-complete

@@ -3,7 +3,7 @@ use Rattle.ws_lex.specs.declared.token.Token.{Token}
 use Rattle.ws_expr.specs.declared.reading.Gathered.{Gathered}
 use Rattle.ws_stmt.specs.Statements.{Lists}
 use Rattle.ws_stmt.specs.Parsing.{EndsList}
-use Rattle.ws_stmt.proofs.Lists.{More}
+use Rattle.ws_expr.proofs.Lists.{More}
 use Rattle.ws_stmt.proofs.list.list.Given as goal
 
 abbrev pub decreases-items : goal.decreases-items

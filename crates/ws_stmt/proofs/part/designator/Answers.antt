@@ -15,12 +15,12 @@ returns-in_default-clause-complete c = λ e rest d h. parts.no_name c.in_default
 pub returns-in_err-items-in-Some-after-clause-complete : goal.returns-in_err-items-in-Some-after-clause-complete
 returns-in_err-items-in-Some-after-clause-complete c = λ e rest d h.
     let a = parts.at_open c.in-Some.ensures.some c.in-Some-after.ensures.some h d in
-    heads.failing _ c.from_residual-in_err-items-in-Some-after.result c.in_err-items-in-Some-after.field-0.0 c.from_residual-in_err-items-in-Some-after.ensures.1 (c.in_err-items-in-Some-after.ensures.complete a.subs a.after a.read (parts.closes_subs_by a.closes))
+    heads.failing _ c.from_residual-in_err-items-in-Some-after.result c.in_err-items-in-Some-after.field-0.0 c.from_residual-in_err-items-in-Some-after.ensures.1 (c.in_err-items-in-Some-after.ensures.complete a.subs a.after a.read (heads.closes_subs_by a.closes))
 
 pub returns-in_err-rest-in-Some-after-clause-complete : goal.returns-in_err-rest-in-Some-after-clause-complete
 returns-in_err-rest-in-Some-after-clause-complete c = λ e rest d h.
     let a = parts.at_open c.in-Some.ensures.some c.in-Some-after.ensures.some h d in
-    let got = c.in_ok-items-in-Some-after.ensures.complete a.subs a.after a.read (parts.closes_subs_by a.closes) in
+    let got = c.in_ok-items-in-Some-after.ensures.complete a.subs a.after a.read (heads.closes_subs_by a.closes) in
     heads.failing _ c.from_residual-in_err-rest-in-Some-after.result c.in_err-rest-in-Some-after.field-0.0 c.from_residual-in_err-rest-in-Some-after.ensures.1 (c.in_err-rest-in-Some-after.ensures.complete rest (heads.follows_at got.1 a.closes))
 
 pub returns-in_ok-copy-in-None-clause-sound : goal.returns-in_ok-copy-in-None-clause-sound
@@ -37,5 +37,5 @@ returns-in_ok-copy-in-Some-after-clause-sound c = parts.subscripted_by c.in-Some
 pub returns-in_ok-copy-in-Some-after-clause-complete : goal.returns-in_ok-copy-in-Some-after-clause-complete
 returns-in_ok-copy-in-Some-after-clause-complete c = λ e rest d h.
     let a = parts.at_open c.in-Some.ensures.some c.in-Some-after.ensures.some h d in
-    let got = c.in_ok-items-in-Some-after.ensures.complete a.subs a.after a.read (parts.closes_subs_by a.closes) in
+    let got = c.in_ok-items-in-Some-after.ensures.complete a.subs a.after a.read (heads.closes_subs_by a.closes) in
     (parts.element_as c.in_ok-copy-in-Some-after.ensures c.element.ensures got.0 a.is, c.in_ok-rest-in-Some-after.ensures.complete rest (heads.follows_at got.1 a.closes))

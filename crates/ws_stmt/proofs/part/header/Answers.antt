@@ -15,29 +15,19 @@ returns-in_err-rest-clause-complete c = λ is m rest d.
 pub returns-in_err-indexes-clause-complete : goal.returns-in_err-indexes-clause-complete
 returns-in_err-indexes-clause-complete c = λ is m rest d.
     let g1 = c.in_ok-rest.ensures.complete d.us d.opens in
-    let r1 = parts.at (λ (xs : List Token). Lists (ReadsIndex sign.Colon) xs is d.vs) g1 d.lists in
-    let e1 = parts.header_ends d.mask d.closes in
-    heads.failing _ c.from_residual-in_err-indexes.result c.in_err-indexes.field-0.0 c.from_residual-in_err-indexes.ensures.1 (c.in_err-indexes.ensures.complete is d.vs r1 e1)
+    heads.failing _ c.from_residual-in_err-indexes.result c.in_err-indexes.field-0.0 c.from_residual-in_err-indexes.ensures.1 (c.in_err-indexes.ensures.complete is d.vs (parts.at (λ (xs : List Token). Lists (ReadsIndex sign.Colon) xs is d.vs) g1 d.lists) (parts.header_ends d.mask d.closes))
 
 pub returns-in_err-mask-clause-complete : goal.returns-in_err-mask-clause-complete
 returns-in_err-mask-clause-complete c = λ is m rest d.
     let g1 = c.in_ok-rest.ensures.complete d.us d.opens in
-    let r1 = parts.at (λ (xs : List Token). Lists (ReadsIndex sign.Colon) xs is d.vs) g1 d.lists in
-    let e1 = parts.header_ends d.mask d.closes in
-    let g2 = c.in_ok-indexes.ensures.complete is d.vs r1 e1 in
-    let r2 = parts.at (λ (xs : List Token). ReadsLast sign.Comma xs m d.ws) g2.1 d.mask in
-    let no = parts.lacks_comma d.closes in
-    heads.failing _ c.from_residual-in_err-mask.result c.in_err-mask.field-0.0 c.from_residual-in_err-mask.ensures.1 (c.in_err-mask.ensures.complete m d.ws r2 (heads.stops_close 9 d.closes) no)
+    let g2 = c.in_ok-indexes.ensures.complete is d.vs (parts.at (λ (xs : List Token). Lists (ReadsIndex sign.Colon) xs is d.vs) g1 d.lists) (parts.header_ends d.mask d.closes) in
+    heads.failing _ c.from_residual-in_err-mask.result c.in_err-mask.field-0.0 c.from_residual-in_err-mask.ensures.1 (c.in_err-mask.ensures.complete m d.ws (parts.at (λ (xs : List Token). ReadsLast sign.Comma xs m d.ws) g2.1 d.mask) (heads.stops_close 9 d.closes) (parts.lacks_comma d.closes))
 
 pub returns-in_err-rest-2-clause-complete : goal.returns-in_err-rest-2-clause-complete
 returns-in_err-rest-2-clause-complete c = λ is m rest d.
     let g1 = c.in_ok-rest.ensures.complete d.us d.opens in
-    let r1 = parts.at (λ (xs : List Token). Lists (ReadsIndex sign.Colon) xs is d.vs) g1 d.lists in
-    let e1 = parts.header_ends d.mask d.closes in
-    let g2 = c.in_ok-indexes.ensures.complete is d.vs r1 e1 in
-    let r2 = parts.at (λ (xs : List Token). ReadsLast sign.Comma xs m d.ws) g2.1 d.mask in
-    let no = parts.lacks_comma d.closes in
-    let g3 = c.in_ok-mask.ensures.complete m d.ws r2 (heads.stops_close 9 d.closes) no in
+    let g2 = c.in_ok-indexes.ensures.complete is d.vs (parts.at (λ (xs : List Token). Lists (ReadsIndex sign.Colon) xs is d.vs) g1 d.lists) (parts.header_ends d.mask d.closes) in
+    let g3 = c.in_ok-mask.ensures.complete m d.ws (parts.at (λ (xs : List Token). ReadsLast sign.Comma xs m d.ws) g2.1 d.mask) (heads.stops_close 9 d.closes) (parts.lacks_comma d.closes) in
     heads.failing _ c.from_residual-in_err-rest-2.result c.in_err-rest-2.field-0.0 c.from_residual-in_err-rest-2.ensures.1 (c.in_err-rest-2.ensures.complete rest (heads.follows_at g3.1 d.closes))
 
 pub returns-clause-sound : goal.returns-clause-sound
@@ -54,10 +44,6 @@ returns-clause-sound c = record {
 pub returns-clause-complete : goal.returns-clause-complete
 returns-clause-complete c = λ is m rest d.
     let g1 = c.in_ok-rest.ensures.complete d.us d.opens in
-    let r1 = parts.at (λ (xs : List Token). Lists (ReadsIndex sign.Colon) xs is d.vs) g1 d.lists in
-    let e1 = parts.header_ends d.mask d.closes in
-    let g2 = c.in_ok-indexes.ensures.complete is d.vs r1 e1 in
-    let r2 = parts.at (λ (xs : List Token). ReadsLast sign.Comma xs m d.ws) g2.1 d.mask in
-    let no = parts.lacks_comma d.closes in
-    let g3 = c.in_ok-mask.ensures.complete m d.ws r2 (heads.stops_close 9 d.closes) no in
+    let g2 = c.in_ok-indexes.ensures.complete is d.vs (parts.at (λ (xs : List Token). Lists (ReadsIndex sign.Colon) xs is d.vs) g1 d.lists) (parts.header_ends d.mask d.closes) in
+    let g3 = c.in_ok-mask.ensures.complete m d.ws (parts.at (λ (xs : List Token). ReadsLast sign.Comma xs m d.ws) g2.1 d.mask) (heads.stops_close 9 d.closes) (parts.lacks_comma d.closes) in
     (g2.0, g3.0, c.in_ok-rest-2.ensures.complete rest (heads.follows_at g3.1 d.closes))

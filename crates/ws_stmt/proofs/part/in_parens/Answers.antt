@@ -18,10 +18,4 @@ returns-in_err-rest-2-clause-complete c = λ e rest d.
     heads.failing _ c.from_residual-in_err-rest-2.result c.in_err-rest-2.field-0.0 c.from_residual-in_err-rest-2.ensures.1 (c.in_err-rest-2.ensures.complete rest (heads.follows_at q.1 d.closes))
 
 pub returns-clause-sound : goal.returns-clause-sound
-returns-clause-sound c = record {
-  us = c.in_ok-rest.rest.now;
-  vs = c.in_ok-e.rest.now;
-  opens = c.in_ok-rest.ensures.sound;
-  reads = c.in_ok-e.ensures.sound;
-  closes = c.in_ok-rest-2.ensures.sound;
-}
+returns-clause-sound c = record { us = c.in_ok-rest.rest.now; vs = c.in_ok-e.rest.now; opens = c.in_ok-rest.ensures.sound; reads = c.in_ok-e.ensures.sound; closes = c.in_ok-rest-2.ensures.sound }
