@@ -21,7 +21,8 @@ use Rattle.ws_expr.specs.declared.reading.Reading.{Reading}
 use Rattle.ws_expr.specs.declared.reading.Gathered.{Gathered}
 use Rattle.ws_expr.specs.declared.calls.Callee.{Callee}
 use Rattle.ws_expr.specs.declared.calls.Callee.TheVariants.{Listed, LeftOut}
-use Rattle.ws_expr.specs.Readings.{node, leaf, unary, binary, paren, empty, with_one, vector, part, range, tree_of, depth_of, odd_of, number_of, value_from, or_left_out, callee, call, call_word, takes, is_name, is_digits, is_one_name, is_with_dimension}
+use Rattle.ws_expr.specs.Readings.{node, leaf, unary, binary, paren, empty, with_one, vector, part, range, tree_of, depth_of, odd_of, number_of, value_from, or_left_out, callee, call, call_word}
+use Rattle.ws_tree.specs.Calls.{takes, is_name, is_digits, is_one_name, is_with_dimension}
 use Rattle.ws_expr.specs.Grammar.{Reads, Primary, ReadsArguments, ReadsAll, ReadsSubs, ReadsSub, ReadsMaybe}
 use Rattle.ws_expr.specs.Grammar.Reads.{primary, signed, joined}
 use Rattle.ws_expr.specs.Grammar.Primary.{number, yes, no, named, subscripted, called, squared, slashed, bracketed}
@@ -77,14 +78,6 @@ good_leaf tree is h = inr (omega arith, is, λ o. h)
 
 -- ---- lists of parts
 
-abbrev exprs_deep : List Expr → ℕ
-exprs_deep [] = 0
-exprs_deep (e ∷ es) = max (depth e) (exprs_deep es)
-
-abbrev EachExpr : List Expr → Type 0
-EachExpr [] = ⊤
-EachExpr (e ∷ es) = IsExpr e × EachExpr es
-
 abbrev sub_deep : Sub → ℕ
 sub_deep (sub.One e) = depth e
 sub_deep (sub.Range' l u s) = max (max (given_depth l) (given_depth u)) (given_depth s)
@@ -93,15 +86,23 @@ abbrev IsSub : Sub → Type 0
 IsSub (sub.One e) = IsExpr e
 IsSub (sub.Range' l u s) = IsGiven l × IsGiven u × IsGiven s
 
-abbrev subs_deep : List Sub → ℕ
-subs_deep [] = 0
-subs_deep (s ∷ ss) = max (sub_deep s) (subs_deep ss)
-
-abbrev EachSub : List Sub → Type 0
-EachSub [] = ⊤
-EachSub (s ∷ ss) = IsSub s × EachSub ss
-
 module _ {T : Type 0} where
+  abbrev deepest : (T → ℕ) → List T → ℕ
+  deepest deep [] = 0
+  deepest deep (x ∷ xs) = max (deep x) (deepest deep xs)
+
+  abbrev Each : (T → Type 0) → List T → Type 0
+  Each P [] = ⊤
+  Each P (x ∷ xs) = P x × Each P xs
+
+  deepest-end : (deep : T → ℕ) (xs : List T) (x : T) → deepest deep (xs ++ x ∷ []) ≡ max (deepest deep xs) (deep x)
+  deepest-end deep [] x = omega arith
+  deepest-end deep (y ∷ ys) x = let h = deepest-end deep ys x in omega (arith, h)
+
+  each-end : (P : T → Type 0) (xs : List T) (x : T) → Each P xs × P x → Each P (xs ++ x ∷ [])
+  each-end P [] x h = (h.1, tt)
+  each-end P (y ∷ ys) x h = (h.0.0, each-end P ys x (h.0.1, h.1))
+
   abbrev Some' : List T → Type 0
   Some' [] = ⊥
   Some' (x ∷ xs) = ⊤
@@ -110,21 +111,17 @@ module _ {T : Type 0} where
   some_end [] x = tt
   some_end (y ∷ ys) x = tt
 
-exprs_deep-end : (es : List Expr) (e : Expr) → exprs_deep (es ++ e ∷ []) ≡ max (exprs_deep es) (depth e)
-exprs_deep-end [] e = omega arith
-exprs_deep-end (x ∷ xs) e = let h = exprs_deep-end xs e in omega (arith, h)
+abbrev exprs_deep : List Expr → ℕ
+exprs_deep = deepest depth
 
-each_expr-end : (es : List Expr) (e : Expr) → EachExpr es × IsExpr e → EachExpr (es ++ e ∷ [])
-each_expr-end [] e h = (h.1, tt)
-each_expr-end (x ∷ xs) e h = (h.0.0, each_expr-end xs e (h.0.1, h.1))
+abbrev EachExpr : List Expr → Type 0
+EachExpr = Each IsExpr
 
-subs_deep-end : (es : List Sub) (e : Sub) → subs_deep (es ++ e ∷ []) ≡ max (subs_deep es) (sub_deep e)
-subs_deep-end [] e = omega arith
-subs_deep-end (x ∷ xs) e = let h = subs_deep-end xs e in omega (arith, h)
+abbrev subs_deep : List Sub → ℕ
+subs_deep = deepest sub_deep
 
-each_sub-end : (es : List Sub) (e : Sub) → EachSub es × IsSub e → EachSub (es ++ e ∷ [])
-each_sub-end [] e h = (h.1, tt)
-each_sub-end (x ∷ xs) e h = (h.0.0, each_sub-end xs e (h.0.1, h.1))
+abbrev EachSub : List Sub → Type 0
+EachSub = Each IsSub
 
 -- ---- the same of rows
 
@@ -132,6 +129,11 @@ exprs_depth_row : (es : List Expr) → exprs_depth (hidden-the_row-Expr-1 es) �
 unfolding trees_open
 exprs_depth_row [] = refl
 exprs_depth_row (e ∷ es) = ap (λ (n : ℕ). max (depth e) n) (exprs_depth_row es)
+
+count_row : (es : List Expr) → count (hidden-the_row-Expr-1 es) ≡ length es
+unfolding trees_open
+count_row [] = refl
+count_row (e ∷ es) = let h = count_row es in omega (arith, h)
 
 exprs_row : (es : List Expr) → EachExpr es → AreExprs (hidden-the_row-Expr-1 es)
 unfolding trees_open
@@ -159,11 +161,6 @@ has_subs_row : (ss : List Sub) → Some' ss → HasSubs (hidden-the_row-Sub-0 ss
 unfolding trees_open
 has_subs_row [] h = absurd h
 has_subs_row (s ∷ ss) h = tt
-
-count_row : (es : List Expr) → count (hidden-the_row-Expr-1 es) ≡ length es
-unfolding trees_open
-count_row [] = refl
-count_row (e ∷ es) = let h = count_row es in omega (arith, h)
 
 -- ---- what calls take
 
@@ -202,6 +199,7 @@ dimension_row (x ∷ d ∷ []) h = let k = both_true (is_name x) (is_digits d) h
 dimension_row (x ∷ y ∷ z ∷ es) h = absurd (true≢false (sym h))
 
 takes_row : (w : CallWord) (es : List Expr) → takes w es ≡ true → Takes w (hidden-the_row-Expr-1 es)
+unfolding takes
 takes_row word.Abs es h = count_row es ∙ eqb-true (length es) 1 h
 takes_row word.Mod es h = count_row es ∙ eqb-true (length es) 2 h
 takes_row word.Modulo es h = count_row es ∙ eqb-true (length es) 2 h
@@ -317,14 +315,14 @@ KnownSubs ss = Some' ss.trees × Known ss.depth (subs_deep ss.trees) ss.odd (Eac
 one_more_expr : (es : Gathered Expr) (e : Reading Expr) → Known es.depth (exprs_deep es.trees) es.odd (EachExpr es.trees) → IsGoodReading e → KnownExprs (with_one es e)
 one_more_expr es e k h = (
   some_end es.trees e.tree,
-  changed (max es.depth e.depth) (max (exprs_deep es.trees) (depth e.tree)) (exprs_deep (es.trees ++ e.tree ∷ [])) (es.odd || e.odd) (exprs_deep-end es.trees e.tree) (each_expr-end es.trees e.tree)
+  changed (max es.depth e.depth) (max (exprs_deep es.trees) (depth e.tree)) (exprs_deep (es.trees ++ e.tree ∷ [])) (es.odd || e.odd) (deepest-end depth es.trees e.tree) (each-end IsExpr es.trees e.tree)
       (both es.depth (exprs_deep es.trees) e.depth (depth e.tree) es.odd e.odd k (known e h)),
 )
 
 one_more_sub : (ss : Gathered Sub) (s : Reading Sub) → Known ss.depth (subs_deep ss.trees) ss.odd (EachSub ss.trees) → KnownSub s → KnownSubs (with_one ss s)
 one_more_sub ss s k h = (
   some_end ss.trees s.tree,
-  changed (max ss.depth s.depth) (max (subs_deep ss.trees) (sub_deep s.tree)) (subs_deep (ss.trees ++ s.tree ∷ [])) (ss.odd || s.odd) (subs_deep-end ss.trees s.tree) (each_sub-end ss.trees s.tree)
+  changed (max ss.depth s.depth) (max (subs_deep ss.trees) (sub_deep s.tree)) (subs_deep (ss.trees ++ s.tree ∷ [])) (ss.odd || s.odd) (deepest-end sub_deep ss.trees s.tree) (each-end IsSub ss.trees s.tree)
       (both ss.depth (subs_deep ss.trees) s.depth (sub_deep s.tree) ss.odd s.odd k h),
 )
 

@@ -31,7 +31,7 @@ use Rattle.ws_stmt.specs.declared.form.Said.{Said}
 use Rattle.ws_stmt.specs.declared.form.Start.{Start}
 use Rattle.ws_stmt.specs.declared.form.Start.TheVariants as start
 use Rattle.ws_stmt.specs.Roles.{is_word, is_left_out_by_words, has_foreign}
-use Rattle.ws_stmt.specs.Statements.{Lists, first, next, InParens, Attributes, Designates, ReadsBound, upper, both, deferred, ReadsShape, ReadsLast, omitted, last, ReadsIndex, ReadsAllocation, ReadsName, ReadsExtent, own, taken, scalar, ReadsValue, variable, constant, ReadsEntity, Assigns, SaysAssignment, SaysDeclaration, one_statement, SaysWhere, masked, masking, SaysElse, otherwise, else_masking, ReadsHeader, SaysForall, over, spanning, SaysDo, SaysAllocate, SaysDeallocate, SaysRead, alone, named_end, program_end, end_form, is_shared, parallel_form, workshare_end, parallel_end, region_end, directive_form, SaysWords, start_of, SaysAs, Says}
+use Rattle.ws_stmt.specs.Statements.{Lists, first, next, InParens, Attributes, Designates, ReadsBound, upper, both, deferred, ReadsShape, ReadsLast, omitted, last, ReadsIndex, ReadsAllocation, ReadsName, ReadsExtent, own, taken, scalar, ReadsValue, variable, constant, ReadsEntity, Assigns, SaysAssignment, SaysDeclaration, one_statement, SaysWhere, masked, masking, SaysElse, otherwise, else_masking, ReadsHeader, SaysForall, over, spanning, SaysDo, SaysAllocate, SaysDeallocate, SaysRead, alone, named_end, program_end, end_form, is_shared, parallel_form, end_by, region_end, directive_form, SaysWords, start_of, SaysAs, Says}
 use Rattle.ws_parse.specs.declared.turn.Turn.{Turn}
 use Rattle.ws_parse.specs.declared.turn.Turn.TheVariants as turn
 use Rattle.ws_parse.specs.declared.place.Place.{Place}
@@ -222,21 +222,16 @@ good_parallel_form (t ∷ ts) =
     (if_either IsGoodWords (is_shared ts) (Some (form.OpensRegion block.ParallelWorkshare)) None (λ line. tt) tt)
     (if_either IsGoodWords (is_shared (t ∷ ts)) (Some (form.OpensRegion block.Parallel)) None (λ line. tt) tt)
 
-good_workshare_end : (ts : List Token) → IsGoodWords (workshare_end ts)
-good_workshare_end [] = λ line odd. tt
-good_workshare_end (t ∷ []) = if_either IsGoodWords (is_word (codes "nowait") t.what) (Some (form.Closes block.Workshare)) None (λ line odd. tt) tt
-good_workshare_end (t ∷ u ∷ ts) = tt
-
-good_parallel_end : (ts : List Token) → IsGoodWords (parallel_end ts)
-good_parallel_end [] = λ line odd. tt
-good_parallel_end (t ∷ []) = if_either IsGoodWords (is_word (codes "workshare") t.what) (Some (form.Closes block.ParallelWorkshare)) None (λ line odd. tt) tt
-good_parallel_end (t ∷ u ∷ ts) = tt
+good_end_by : (b : Block) (w : List ℕ) (other : Block) (ts : List Token) → IsGoodWords (end_by b w other ts)
+good_end_by b w other [] = λ line odd. tt
+good_end_by b w other (t ∷ []) = if_either IsGoodWords (is_word w t.what) (Some (form.Closes other)) None (λ line odd. tt) tt
+good_end_by b w other (t ∷ u ∷ ts) = tt
 
 good_region_end : (ts : List Token) → IsGoodWords (region_end ts)
 good_region_end [] = tt
 good_region_end (t ∷ ts) =
-    if_either IsGoodWords (is_word (codes "workshare") t.what) _ _ (good_workshare_end ts)
-    (if_either IsGoodWords (is_word (codes "parallel") t.what) _ _ (good_parallel_end ts) tt)
+    if_either IsGoodWords (is_word (codes "workshare") t.what) _ _ (good_end_by block.Workshare (codes "nowait") block.Workshare ts)
+    (if_either IsGoodWords (is_word (codes "parallel") t.what) _ _ (good_end_by block.Parallel (codes "workshare") block.ParallelWorkshare ts) tt)
 
 good_directive_form : (ts : List Token) → IsGoodWords (directive_form ts)
 good_directive_form [] = tt
@@ -384,10 +379,10 @@ module _ (side : (ts : List Token) (e : Reading Expr) (rest : List Token) → Re
 
   allocate_said : (line : ℕ) (ts : List Token) (s : Said) → SaysAllocate ts s → IsGoodSaid line s
   allocate_said line ts s p = subst (IsGoodSaid line) (sym p.is) (λ odd. good_outside line (body.Allocate p.ps.trees) refl refl (λ room.
-      (lists_some ReadsAllocation p.us p.ps p.vs p.lists, lists_all ReadsAllocation IsPart allocation_good p.us p.ps p.vs p.lists odd)))
+      (lists_some ReadsAllocation p.arrays.us p.ps p.arrays.vs p.arrays.lists, lists_all ReadsAllocation IsPart allocation_good p.arrays.us p.ps p.arrays.vs p.arrays.lists odd)))
 
   deallocate_said : (line : ℕ) (ts : List Token) (s : Said) → SaysDeallocate ts s → IsGoodSaid line s
-  deallocate_said line ts s p = subst (IsGoodSaid line) (sym p.is) (λ odd. good_outside line (body.Deallocate p.xs.trees) refl refl (λ room. lists_some ReadsName p.us p.xs p.vs p.lists))
+  deallocate_said line ts s p = subst (IsGoodSaid line) (sym p.is) (λ odd. good_outside line (body.Deallocate p.xs.trees) refl refl (λ room. lists_some ReadsName p.arrays.us p.xs p.arrays.vs p.arrays.lists))
 
   read_said : (line : ℕ) (ts : List Token) (s : Said) → SaysRead ts s → IsGoodSaid line s
   read_said line ts s p = subst (IsGoodSaid line) (sym p.is) (λ odd. good_outside line (body.Read p.es.trees) refl refl (λ room.

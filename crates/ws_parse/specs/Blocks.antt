@@ -125,7 +125,8 @@ mutual
 
 abbrev pub name_of : Naming → List ℕ
 name_of (naming.Called x) = x
-name_of _ = codes "main"
+name_of naming.Unnamed = codes "main"
+name_of naming.Unread = codes "main"
 
 -- the name that END PROGRAM may repeat; each one fits a PROGRAM that is left out
 abbrev pub fits : Naming → Option (List ℕ) → Bool

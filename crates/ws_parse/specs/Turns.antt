@@ -95,7 +95,11 @@ in_forall _ = None
 
 abbrev pub in_parallel : Block → Option Bool
 in_parallel block.Workshare = Some false
-in_parallel _ = Some true
+in_parallel block.Do = Some true
+in_parallel block.Where = Some true
+in_parallel block.Forall = Some true
+in_parallel block.ParallelWorkshare = Some true
+in_parallel block.Parallel = Some true
 
 -- the block may stand there, and whether it is left out there
 abbrev pub nests : Place → Block → Option Bool
@@ -116,10 +120,6 @@ opened b o (Some left_out) = Some (move.Open b (lost left_out o))
 abbrev pub open_in : Place → Block → Opening → Option Move
 open_in p b o = opened b o (nests p b)
 
-abbrev pub region : Block → Opening
-region block.Parallel = opening.Parallel
-region _ = opening.Region
-
 abbrev pub same_block : Block → Block → Bool
 same_block block.Do block.Do = true
 same_block block.Where block.Where = true
@@ -129,38 +129,36 @@ same_block block.Parallel block.Parallel = true
 same_block block.Workshare block.Workshare = true
 same_block _ _ = false
 
+abbrev pub region : Block → Opening
+region b = if same_block block.Parallel b then opening.Parallel else opening.Region
+
 -- the block is the innermost one
 abbrev pub is_in : Block → Place → Bool
 is_in b (place.In c s l) = same_block b c
 is_in b _ = false
-
--- directly in the unit, before its END
-abbrev pub is_outermost : Place → Bool
-is_outermost place.Head = true
-is_outermost place.Named = true
-is_outermost place.Declarations = true
-is_outermost place.Statements = true
-is_outermost _ = false
 
 -- ELSEWHERE may follow
 abbrev pub goes_on : Place → Bool
 goes_on (place.In block.Where s false) = true
 goes_on _ = false
 
+-- what may begin the unit, each of these also where the one before it may stand
 abbrev pub may_name : Place → Bool
 may_name place.Head = true
 may_name _ = false
 
 abbrev pub may_imply : Place → Bool
-may_imply place.Head = true
 may_imply place.Named = true
-may_imply _ = false
+may_imply p = may_name p
 
 abbrev pub may_declare : Place → Bool
-may_declare place.Head = true
-may_declare place.Named = true
 may_declare place.Declarations = true
-may_declare _ = false
+may_declare p = may_imply p
+
+-- directly in the unit, before its END
+abbrev pub is_outermost : Place → Bool
+is_outermost place.Statements = true
+is_outermost p = may_declare p
 
 -- ---- what a statement does
 
