@@ -2,7 +2,6 @@
 
 ghost use Rattle.std.specs.Prelude.{◌≡◌, map};
 ghost use Rattle.hlfir_ops.specs.Rules.{is_in};
-ghost use Rattle.hlfir_ops.specs.RulesValues as values;
 ghost use Rattle.alias_test.specs.Givers.{op_at};
 ghost use Rattle.assign_schedule.specs.Looks.{givers_seen};
 ghost use Rattle.assign_schedule.specs.Saved as saved;
@@ -11,27 +10,7 @@ use crate::harm::subscripts_of;
 use crate::item::Header;
 use crate::kinds::giver_of;
 use crate::look::Look;
-use hlfir_ops::{Op, SubKind, ValueId, What};
-
-fn is_vector(sub: SubKind) -> bool
-    ensures { result ≡ values.is_vector sub }
-{
-    match sub {
-        SubKind::One | SubKind::Range => false,
-        SubKind::Vector => true,
-    }
-}
-
-fn has_vector(subs: &[SubKind]) -> bool
-    ensures { result ≡ values.has_vector subs.now }
-{
-    'each: for sub in subs {
-        if is_vector(*sub) {
-            return true;
-        }
-    }
-    false
-}
+use hlfir_ops::{Op, ValueId, What, has_vector};
 
 fn has_vector_by(what: &What) -> bool
     ensures { result ≡ saved.has_vector_by what.now }
