@@ -1,6 +1,7 @@
 -- The expressions that are read are ones that the grammar can give.
 use Rattle.std.proofs.Common.{◌≡◌, refl, ap, sym, ◌∙◌, ℕ, ◌+◌, ◌≤◌, max, nat_lt, Bool, true, false, not, ◌||◌, ◌⊎◌, inl, inr, ⊎_elim, List, [], ◌∷◌, ◌++◌, length, Option, Some, None, if◌then◌else◌, codes, bytes_eq, arith, eqb-true, leb-true, ltb-true, true≢false}
 use Rattle.std.specs.Prelude.{⊤}
+use Rattle.std.proofs.lemmas.Bool.{and_parts}
 use Rattle.std.proofs.lemmas.Option.{none-some}
 use Rattle.ws_lex.specs.declared.token.Token.{Token}
 use Rattle.ws_base.specs.declared.op.CallWord.{CallWord}
@@ -173,10 +174,6 @@ digits_by (Number n) h = tt
 digits_by TooWide h = tt
 digits_by _ h = absurd (true≢false (sym h))
 
-both_true : (b c : Bool) → (if b then c else false) ≡ true → (b ≡ true) × (c ≡ true)
-both_true true c h = (refl, h)
-both_true false c h = absurd (true≢false (sym h))
-
 either_true : (b c : Bool) → (b || c) ≡ true → (b ≡ true) ⊎ (c ≡ true)
 either_true true c h = inl refl
 either_true false c h = inr h
@@ -195,7 +192,7 @@ dimension_row : (es : List Expr) → is_with_dimension es ≡ true → HasDimens
 unfolding trees_open
 dimension_row [] h = absurd (true≢false (sym h))
 dimension_row (x ∷ []) h = absurd (true≢false (sym h))
-dimension_row (x ∷ d ∷ []) h = let k = both_true (is_name x) (is_digits d) h in (name_by x k.0, digits_by d k.1)
+dimension_row (x ∷ d ∷ []) h = let k = and_parts (is_name x) (is_digits d) h in (name_by x k.0, digits_by d k.1)
 dimension_row (x ∷ y ∷ z ∷ es) h = absurd (true≢false (sym h))
 
 takes_row : (w : CallWord) (es : List Expr) → takes w es ≡ true → Takes w (hidden-the_row-Expr-1 es)
